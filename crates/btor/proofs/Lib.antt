@@ -1,0 +1,5 @@
+pub mod Sorts
+pub mod Words
+pub mod BitVectors
+pub mod Agreement
+pub mod Cases

@@ -1,0 +1,5 @@
+pub mod Sorts
+pub mod Operators
+pub mod Standard
+pub mod Agreement
+pub mod Cases

@@ -1,0 +1,155 @@
+// The operators of BTOR2 on numbers of at most 64 bits, as optimize.rs folds them.
+use crate::node_type::NodeType;
+ghost use mathlib.Core.Path.{_≡_};
+ghost use Prim.Native.Nat.{_-_, _*_, _%_, _^_};
+ghost use Rattle.btor.specs.Operators.{Op, Reading, compute, both, either, complement, less, same, extend, magnitude, overflow};
+ghost use Rattle.btor.specs.Sorts.{widthOf};
+
+const HALF: u64 = 9223372036854775808;
+
+const LOW: u64 = 4294967296;
+
+// The sum modulo 2^64.
+pub fn wrapping_add(left: u64, right: u64) -> u64
+    ensures { λ r. ⌜ r ≡ compute Reading.rust Op.Add left right ⌝ }
+{
+    std::num::wrapping_add_u64(left, right)
+}
+
+// The difference modulo 2^64.
+pub fn wrapping_sub(left: u64, right: u64) -> u64
+    ensures { λ r. ⌜ r ≡ compute Reading.rust Op.Sub left right ⌝ }
+{
+    std::num::wrapping_sub_u64(left, right)
+}
+
+// The product of the lower halves of two words.
+fn low_product(left: u64, right: u64) -> u64
+    ensures { λ r. ⌜ r ≡ left % 2 ^ 32 * (right % 2 ^ 32) ⌝ }
+{
+    left % LOW * (right % LOW)
+}
+
+// The product modulo 2^64, by halves: no product or sum here overflows.
+pub fn wrapping_mul(left: u64, right: u64) -> u64
+    ensures { λ r. ⌜ r ≡ compute Reading.rust Op.Mul left right ⌝ }
+{
+    let left_high = left / LOW;
+    let right_high = right / LOW;
+    let cross = std::num::wrapping_add_u64(
+        low_product(left_high, right),
+        low_product(left, right_high),
+    );
+    std::num::wrapping_add_u64(low_product(left, right), cross % LOW * LOW)
+}
+
+// How far a word, read as a signed number, is from zero.
+fn distance(x: u64) -> u64
+    ensures { λ r. ⌜ r ≡ magnitude x ⌝ }
+{
+    if x < HALF { x } else { u64::MAX - x + 1 }
+}
+
+// The negative of a number, modulo 2^64.
+fn negated(x: u64) -> u64
+    ensures { λ r. ⌜ r ≡ (2 ^ 64 - x) % 2 ^ 64 ⌝ }
+{
+    if x == 0 { 0 } else { u64::MAX - x + 1 }
+}
+
+// Whether the quotient of two signed numbers is too large: the least by -1.
+fn overflows(left: u64, right: u64) -> bool
+    ensures { λ r. ⌜ r ≡ overflow left right ⌝ }
+{
+    left == HALF && right == u64::MAX
+}
+
+// Signed, toward zero; by 0, and for the least by -1, the greatest.
+pub fn btor_u64_div(left: u64, right: u64) -> u64
+    ensures { λ r. ⌜ r ≡ compute Reading.rust Op.Div left right ⌝ }
+{
+    if right == 0 {
+        return HALF - 1;
+    }
+    if overflows(left, right) {
+        return HALF - 1;
+    }
+    let quotient = distance(left) / distance(right);
+    if left < HALF {
+        if right < HALF {
+            quotient
+        } else {
+            negated(quotient)
+        }
+    } else if right < HALF {
+        negated(quotient)
+    } else {
+        quotient
+    }
+}
+
+// Unsigned; by 0, all ones.
+pub fn btor_u64_divu(left: u64, right: u64) -> u64
+    ensures { λ r. ⌜ r ≡ compute Reading.rust Op.Divu left right ⌝ }
+{
+    if right == 0 { u64::MAX } else { left / right }
+}
+
+// Unsigned; by 0, all ones.
+pub fn btor_u64_rem(left: u64, right: u64) -> u64
+    ensures { λ r. ⌜ r ≡ compute Reading.rust Op.Rem left right ⌝ }
+{
+    if right == 0 { u64::MAX } else { left % right }
+}
+
+// To the left; by 64 or more, 0.
+pub fn btor_u64_sll(left: u64, right: u64) -> u64
+    ensures { λ r. ⌜ r ≡ compute Reading.rust Op.Sll left right ⌝ }
+{
+    if right < 64 { left << right } else { 0 }
+}
+
+// To the right, zeros coming in; by 64 or more, 0.
+pub fn btor_u64_srl(left: u64, right: u64) -> u64
+    ensures { λ r. ⌜ r ≡ compute Reading.rust Op.Srl left right ⌝ }
+{
+    if right < 64 { left >> right } else { 0 }
+}
+
+pub fn and(left: u64, right: u64) -> u64
+    ensures { λ r. ⌜ r ≡ both left right ⌝ }
+{
+    left & right
+}
+
+pub fn or(left: u64, right: u64) -> u64
+    ensures { λ r. ⌜ r ≡ either left right ⌝ }
+{
+    left | right
+}
+
+// The complement within a sort's width, of the number's lowest bits.
+pub fn not(value: u64, sort: NodeType) -> u64
+    ensures { λ r. ⌜ r ≡ complement (widthOf sort) value ⌝ }
+{
+    !value & sort.ones()
+}
+
+pub fn ult(left: u64, right: u64) -> bool
+    ensures { λ r. ⌜ r ≡ less left right ⌝ }
+{
+    left < right
+}
+
+pub fn eq(left: u64, right: u64) -> bool
+    ensures { λ r. ⌜ r ≡ same left right ⌝ }
+{
+    left == right
+}
+
+// A number of a narrower sort as a word.
+pub fn ext(value: u64) -> u64
+    ensures { λ r. ⌜ r ≡ extend value ⌝ }
+{
+    value
+}
