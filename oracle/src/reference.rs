@@ -1,0 +1,3 @@
+// The published Rust as a library: the folder `unicorn` is laid out by the build script.
+
+pub mod unicorn;

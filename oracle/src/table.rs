@@ -1,0 +1,294 @@
+// A house table, read from text and judged: refusals 1 to 7 and 12, which the published Rust lacks.
+
+#[derive(Clone, Copy, Debug, PartialEq)]
+pub struct Refusal {
+    pub number: u64,
+    pub section: u64,
+    pub position: u64,
+}
+
+pub fn refusal(number: u64, section: u64, position: u64) -> Refusal {
+    Refusal { number, section, position }
+}
+
+#[derive(Clone)]
+pub struct Row {
+    pub kind: u64,
+    pub sort: u64,
+    pub words: [u64; 3],
+    pub name: u64,
+}
+
+#[derive(Clone, Default)]
+pub struct Table {
+    pub mode: u64,
+    pub nodes: Vec<Row>,
+    pub sequentials: Vec<u64>,
+    pub initial_bads: Vec<u64>,
+    pub sequential_bads: Vec<u64>,
+    pub inputs: Vec<u64>,
+    pub replies: Vec<u64>,
+    pub names: Vec<Vec<u64>>,
+}
+
+pub const CONST: u64 = 1;
+pub const READ: u64 = 2;
+pub const WRITE: u64 = 3;
+pub const ADD: u64 = 4;
+pub const SUB: u64 = 5;
+pub const MUL: u64 = 6;
+pub const DIVU: u64 = 7;
+pub const DIV: u64 = 8;
+pub const REM: u64 = 9;
+pub const SLL: u64 = 10;
+pub const SRL: u64 = 11;
+pub const ULT: u64 = 12;
+pub const EXT: u64 = 13;
+pub const ITE: u64 = 14;
+pub const EQ: u64 = 15;
+pub const AND: u64 = 16;
+pub const OR: u64 = 17;
+pub const NOT: u64 = 18;
+pub const STATE: u64 = 19;
+pub const NEXT: u64 = 20;
+pub const INPUT: u64 = 21;
+pub const BAD: u64 = 22;
+
+pub const BIT: u64 = 1;
+pub const WORD: u64 = 2;
+pub const MEMORY: u64 = 3;
+
+pub const MOST_NUMBERS: usize = 4096;
+pub const MOST_RESULT_WORDS: usize = 4096;
+pub const MOST_NODES: u64 = 4096;
+pub const MOST_ENTRIES: u64 = 1024;
+pub const MOST_INPUTS: u64 = 4096;
+pub const MOST_REPLIES: u64 = 16384;
+pub const MOST_NAMES: u64 = 4096;
+pub const LONGEST_NAME: u64 = 64;
+
+// The bits of a sort other than memory; nothing for a word that is no such sort.
+pub fn width(sort: u64) -> Option<u64> {
+    match sort {
+        BIT => Some(1),
+        WORD => Some(64),
+        11..=17 => Some(8 * (sort - 10)),
+        _ => None,
+    }
+}
+
+pub fn fits(number: u64, sort: u64) -> bool {
+    width(sort).is_some_and(|width| number <= u64::MAX >> (64 - width))
+}
+
+impl Row {
+    // The words that name nodes. A State's a does so where its b is 1.
+    pub fn operands(&self) -> &[u64] {
+        let count = match self.kind {
+            CONST | INPUT => 0,
+            EXT | NOT | BAD => 1,
+            WRITE | ITE => 3,
+            STATE => (self.words[1] == 1) as usize,
+            _ => 2,
+        };
+        &self.words[..count]
+    }
+}
+
+impl Table {
+    pub fn read(text: &[u8]) -> Result<Table, Refusal> {
+        let numbers = numbers(text)?;
+        let mut rest = &numbers[1..];
+        let nodes = section(&mut rest, 1, MOST_NODES, 6)?;
+        let table = Table {
+            mode: numbers[0],
+            nodes: (nodes.chunks(6))
+                .map(|w| Row { kind: w[0], sort: w[1], words: [w[2], w[3], w[4]], name: w[5] })
+                .collect(),
+            sequentials: section(&mut rest, 2, MOST_ENTRIES, 1)?,
+            initial_bads: section(&mut rest, 3, MOST_ENTRIES, 1)?,
+            sequential_bads: section(&mut rest, 4, MOST_ENTRIES, 1)?,
+            inputs: section(&mut rest, 5, MOST_INPUTS, 1)?,
+            replies: section(&mut rest, 6, MOST_REPLIES, 1)?,
+            names: names(rest)?,
+        };
+        table.judge_room()?;
+        table.judge_nodes()?;
+        table.judge_lists()?;
+        Ok(table)
+    }
+
+    pub fn numbers(&self) -> Vec<u64> {
+        let mut out = vec![self.mode, self.nodes.len() as u64];
+        for row in &self.nodes {
+            out.extend([row.kind, row.sort]);
+            out.extend(row.words);
+            out.push(row.name);
+        }
+        for list in [
+            &self.sequentials,
+            &self.initial_bads,
+            &self.sequential_bads,
+            &self.inputs,
+            &self.replies,
+        ] {
+            out.push(list.len() as u64);
+            out.extend(list);
+        }
+        out.push(self.names.len() as u64);
+        for name in &self.names {
+            out.push(name.len() as u64);
+            out.extend(name);
+        }
+        out
+    }
+
+    fn judge_room(&self) -> Result<(), Refusal> {
+        let bads = self.initial_bads.len() + self.sequential_bads.len();
+        let need =
+            22 * self.nodes.len() + 5 * bads + self.sequentials.len() + self.inputs.len() + 22;
+        if need > MOST_RESULT_WORDS {
+            return Err(refusal(12, 8, 0));
+        }
+        Ok(())
+    }
+
+    fn judge_nodes(&self) -> Result<(), Refusal> {
+        for (at, row) in self.nodes.iter().enumerate() {
+            if !self.well_formed(row) {
+                return Err(refusal(3, 1, at as u64));
+            }
+            if row.operands().iter().any(|operand| *operand >= at as u64) {
+                return Err(refusal(4, 1, at as u64));
+            }
+            if !self.sorts_agree(row) {
+                return Err(refusal(5, 1, at as u64));
+            }
+        }
+        Ok(())
+    }
+
+    // Known codes, words that must be 0, and the name.
+    fn well_formed(&self, row: &Row) -> bool {
+        let known_sort = |sort| sort == MEMORY || width(sort).is_some();
+        let [a, b, c] = row.words;
+        let words = match row.kind {
+            CONST => b == 0 && c == 0,
+            EXT => known_sort(b) && c == 0,
+            STATE => (b == 1 || b == 0 && a == 0) && c == 0,
+            READ..=BAD => row.words[row.operands().len()..].iter().all(|word| *word == 0),
+            _ => false,
+        };
+        let name = match row.kind {
+            STATE | BAD => row.name <= self.names.len() as u64,
+            INPUT => 1 <= row.name && row.name <= self.names.len() as u64,
+            _ => row.name == 0,
+        };
+        words && known_sort(row.sort) && name
+    }
+
+    fn sorts_agree(&self, row: &Row) -> bool {
+        let operand = |k: usize| &self.nodes[row.words[k] as usize];
+        let sort = |k: usize| operand(k).sort;
+        let mut operands = (0..row.operands().len()).map(operand);
+        if operands.any(|operand| matches!(operand.kind, NEXT | BAD)) {
+            return false;
+        }
+        match row.kind {
+            CONST => fits(row.words[0], row.sort),
+            READ => row.sort == WORD && sort(0) == MEMORY && sort(1) == WORD,
+            WRITE => [row.sort, sort(0), sort(1), sort(2)] == [MEMORY, MEMORY, WORD, WORD],
+            ADD..=SRL => [row.sort, sort(0), sort(1)] == [WORD, WORD, WORD],
+            ULT | EQ => row.sort == BIT && sort(0) == sort(1) && sort(0) != MEMORY,
+            EXT => row.sort == WORD && sort(0) == row.words[1] && sort(0) != MEMORY,
+            ITE => sort(0) == BIT && sort(1) == row.sort && sort(2) == row.sort,
+            AND | OR => row.sort != MEMORY && sort(0) == row.sort && sort(1) == row.sort,
+            NOT => row.sort != MEMORY && sort(0) == row.sort,
+            STATE => row.operands().is_empty() || sort(0) == row.sort,
+            NEXT => operand(0).kind == STATE && sort(0) == row.sort && sort(1) == row.sort,
+            BAD => row.sort == BIT && sort(0) == BIT,
+            _ => true,
+        }
+    }
+
+    fn judge_lists(&self) -> Result<(), Refusal> {
+        let mut states = Vec::new();
+        for (place, entry) in self.sequentials.iter().enumerate() {
+            let Some(row) = self.nodes.get(*entry as usize).filter(|row| row.kind == NEXT) else {
+                return Err(refusal(6, 2, place as u64));
+            };
+            let state = row.words[0];
+            if self.nodes[state as usize].operands().is_empty() {
+                return Err(refusal(6, 2, place as u64));
+            }
+            if states.contains(&state) {
+                return Err(refusal(7, 2, place as u64));
+            }
+            states.push(state);
+        }
+        for (section, list) in [(3, &self.initial_bads), (4, &self.sequential_bads)] {
+            for (place, entry) in list.iter().enumerate() {
+                if self.nodes.get(*entry as usize).is_none_or(|row| row.kind != BAD) {
+                    return Err(refusal(6, section, place as u64));
+                }
+            }
+        }
+        Ok(())
+    }
+}
+
+// The numbers of the text, the first of them a mode.
+fn numbers(text: &[u8]) -> Result<Vec<u64>, Refusal> {
+    let mut numbers = Vec::new();
+    for token in text.split(|byte| b" \t\r\n".contains(byte)).filter(|token| !token.is_empty()) {
+        let place = numbers.len();
+        if place == MOST_NUMBERS {
+            return Err(refusal(2, 0, place as u64));
+        }
+        match number(token) {
+            Some(mode) if place == 0 && mode > 7 => return Err(refusal(1, 0, 0)),
+            Some(number) => numbers.push(number),
+            None => return Err(refusal(1, 0, place as u64)),
+        }
+    }
+    if numbers.is_empty() {
+        return Err(refusal(1, 0, 0));
+    }
+    Ok(numbers)
+}
+
+fn number(token: &[u8]) -> Option<u64> {
+    token.iter().try_fold(0u64, |number, byte| {
+        let digit = char::from(*byte).to_digit(10)?;
+        number.checked_mul(10)?.checked_add(digit as u64)
+    })
+}
+
+// A section's words, cut from the front of the rest; its entries have `width` words each.
+fn section(rest: &mut &[u64], section: u64, most: u64, width: usize) -> Result<Vec<u64>, Refusal> {
+    let short = refusal(1, section, 0);
+    let (count, after) = rest.split_first().ok_or(short)?;
+    if *count > most {
+        return Err(refusal(2, section, 0));
+    }
+    let (words, after) = after.split_at_checked(*count as usize * width).ok_or(short)?;
+    *rest = after;
+    Ok(words.to_vec())
+}
+
+// Section 7 in the text: each name after its length, one number a byte, and nothing left over.
+fn names(words: &[u64]) -> Result<Vec<Vec<u64>>, Refusal> {
+    let wrong = refusal(1, 7, 0);
+    let (count, mut rest) = words.split_first().ok_or(wrong)?;
+    if *count > MOST_NAMES {
+        return Err(refusal(2, 7, 0));
+    }
+    let mut names = Vec::new();
+    for _ in 0..*count {
+        names.push(section(&mut rest, 7, LONGEST_NAME, 1)?);
+    }
+    if !rest.is_empty() || names.iter().flatten().any(|byte| *byte > 255) {
+        return Err(wrong);
+    }
+    Ok(names)
+}
