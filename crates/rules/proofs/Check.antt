@@ -1,0 +1,128 @@
+-- What the checks do not refuse meets rules 3 to 7.
+-- Each refusal is the first of a list; where none is drawn, every test of the list held.
+-- Assumes nothing.
+use Prim.Native.Nat.{ℕ, zero, suc, _+_, _<_}
+use mathlib.Core.Path.{_≡_, refl, sym, _∙_, subst}
+use mathlib.Core.Logic.{_≢_}
+use mathlib.Core.Bool.{Bool, true, false, _||_, not}
+use mathlib.Core.Option.{Option, none, some}
+use mathlib.Core.List.{List, [], _∷_, map}
+use native.Mathlib.Omega.{arith}
+use native.Mathlib.Nat.{zero-add, add-zero, add-suc, suc-add, not-suc-le-zero, le-of-suc-le-suc}
+use lib.ListN.{length, List·getD-map, length-map}
+use lib.Dec.{ltb, eqb}
+use borrow.Author.Tests.{eqb-true, eqb-false, ltb-true, not-true}
+use Rattle.rules.specs.Lists.{allTrue, every, member, All}
+use Rattle.rules.specs.Refusal.{Refusal, unless, firstOf}
+use Rattle.rules.specs.Table.{Next, Bad, Row, Node, decode, nodeAt, operands}
+use Rattle.rules.specs.Check.{knownKind, knownSort, mayServe, sorted, rule3, rule4, rule5, checkNode, checkNodes, sequentialEntry, badEntry, checkSequentials, checkBads, check}
+use Rattle.rules.specs.Legal.{Legal, AllLegal, Sequential, BadEntry, Once, noRow, rowAt, Accepted}
+use Rattle.rules.proofs.Base.{no, and-both, all-map, is-kind}
+
+-- ---- tests read
+all-true : (bs : List Bool) → allTrue bs ≡ true → All (λ b. b ≡ true) bs
+all-true [] e = tt
+all-true (b ∷ bs) e = let q = and-both b (allTrue bs) e in (q .0, all-true bs (q .1))
+
+each : (p : ℕ → Bool) (xs : List ℕ) → every p xs ≡ true → All (λ x. p x ≡ true) xs
+each p [] e = tt
+each p (x ∷ xs) e = let q = and-both (p x) (every p xs) e in (q .0, each p xs (q .1))
+
+some≢none : {A B : Type 0} (x : A) → some x ≡ none → B
+some≢none x e = let z : _≡_ {A = ℕ} 0 1 = cc in let o : ⊥ = omega arith in absurd o
+
+faultless : (os : List (Option Refusal)) → firstOf os ≡ none → All (λ o. o ≡ none) os
+faultless [] e = tt
+faultless (none ∷ os) e = (refl, faultless os e)
+faultless (some r ∷ os) e = some≢none r e
+
+held : (b : Bool) (r s p : ℕ) → unless b r s p ≡ none → b ≡ true
+held true r s p e = refl
+held false r s p e = some≢none _ e
+
+-- ---- every node
+module _ (names : ℕ) (t : List Node) where
+  node-passed : (rs : List Row) (k : ℕ) → checkNodes names t k rs ≡ none → (i : ℕ) → i < length rs → checkNode names t (k + i) (rowAt rs i) ≡ none
+  unfolding checkNodes
+  node-passed [] k e i l = absurd (not-suc-le-zero l)
+  node-passed (r ∷ rs) k e zero l =
+      subst (λ j. checkNode names t j r ≡ none) (sym (add-zero k)) (faultless (checkNode names t k r ∷ checkNodes names t (suc k) rs ∷ []) e .0)
+  node-passed (r ∷ rs) k e (suc i) l =
+      subst (λ j. checkNode names t j (rowAt rs i) ≡ none) (suc-add k i ∙ sym (add-suc k i))
+      (node-passed rs (suc k) (faultless (checkNode names t k r ∷ checkNodes names t (suc k) rs ∷ []) e .1 .0) i (le-of-suc-le-suc l))
+
+module _ (names : ℕ) (rs : List Row) (e : checkNodes names (map decode rs) 0 rs ≡ none) where
+  rules : (k : ℕ) → k < length rs → (rule3 names (rowAt rs k) ≡ true) × (rule4 k (decode (rowAt rs k)) ≡ true) × (rule5 (map decode rs) (decode (rowAt rs k)) ≡ true)
+  rules k l =
+      let r : Row = rowAt rs k in
+      let t : List Node = map decode rs in
+      let f = faultless (unless (rule3 names r) 3 1 k ∷ unless (rule4 k (decode r)) 4 1 k ∷ unless (rule5 t (decode r)) 5 1 k ∷ [])
+      (subst (λ j. checkNode names t j r ≡ none) (zero-add k) (node-passed names t rs 0 e k l)) in
+      (held (rule3 names r) 3 1 k (f .0), held (rule4 k (decode r)) 4 1 k (f .1 .0), held (rule5 t (decode r)) 5 1 k (f .1 .1 .0))
+
+  all-legal : AllLegal (map decode rs)
+  all-legal k l =
+      let t : List Node = map decode rs in
+      let nd : Node = decode (rowAt rs k) in
+      let h = rules k (subst (λ n. k < n) (length-map rs decode) l) in
+      let five = and-both (every (λ x. mayServe (nodeAt t x)) (operands nd)) (allTrue (sorted t nd)) (h .2) in
+      subst (Legal t k) (sym (List·getD-map decode rs k noRow))
+      (record {
+        known = and-both (knownSort (nd .sort)) _ (and-both (knownKind (rowAt rs k .code)) _ (h .0) .1) .0;
+        before = all-map (λ x. ltb x k ≡ true) (λ x. x < k) (λ x q. ltb-true x k q) (operands nd) (each (λ x. ltb x k) (operands nd) (h .1));
+        serve = each (λ x. mayServe (nodeAt t x)) (operands nd) (five .0);
+        sorts = all-true (sorted t nd) (five .1);
+      })
+
+-- ---- the lists
+module _ (t : List Node) where
+  sequentials-ok : (place : ℕ) (seen ss : List ℕ) → checkSequentials t place seen ss ≡ none → All (Sequential t) ss
+  unfolding checkSequentials
+  sequentials-ok place seen [] q = tt
+  sequentials-ok place seen (s ∷ ss) q =
+      let f = faultless (unless (allTrue (sequentialEntry t s)) 6 2 place ∷ unless (not (member (nodeAt t s .a) seen)) 7 2 place ∷ checkSequentials t (suc place) (nodeAt t s .a ∷ seen) ss ∷ []) q in
+      let h = all-true (sequentialEntry t s) (held (allTrue (sequentialEntry t s)) 6 2 place (f .0)) in
+      (record { inside = ltb-true s (length t) (h .0); next = is-kind Next (nodeAt t s) (h .1 .0); init = eqb-true _ 1 (h .1 .1 .0) }, sequentials-ok (suc place) (nodeAt t s .a ∷ seen) ss (f .1 .1 .0))
+
+  apart : (x y : ℕ) (seen : List ℕ) → member x (y ∷ seen) ≡ false → (x ≢ y) × (member x seen ≡ false)
+  apart x y seen e = go (eqb x y) refl e
+    where
+      go : (b : Bool) → eqb x y ≡ b → (b || member x seen) ≡ false → (x ≢ y) × (member x seen ≡ false)
+      go true q h = no (sym h)
+      go false q h = (eqb-false x y q, h)
+
+  once-ok : (place : ℕ) (seen ss : List ℕ) → checkSequentials t place seen ss ≡ none → Once t ss × All (λ s. member (nodeAt t s .a) seen ≡ false) ss
+  unfolding checkSequentials Once
+  once-ok place seen [] q = (tt, tt)
+  once-ok place seen (s ∷ ss) q =
+      let f = faultless (unless (allTrue (sequentialEntry t s)) 6 2 place ∷ unless (not (member (nodeAt t s .a) seen)) 7 2 place ∷ checkSequentials t (suc place) (nodeAt t s .a ∷ seen) ss ∷ []) q in
+      let n = not-true (member (nodeAt t s .a) seen) (held (not (member (nodeAt t s .a) seen)) 7 2 place (f .1 .0)) in
+      let r = once-ok (suc place) (nodeAt t s .a ∷ seen) ss (f .1 .1 .0) in
+      let P : ℕ → Type 0 = λ r. member (nodeAt t r .a) (nodeAt t s .a ∷ seen) ≡ false in (
+        (all-map P (λ r. nodeAt t r .a ≢ nodeAt t s .a) (λ r h. apart (nodeAt t r .a) (nodeAt t s .a) seen h .0) ss (r .1), r .0),
+        (n, all-map P (λ r. member (nodeAt t r .a) seen ≡ false) (λ r h. apart (nodeAt t r .a) (nodeAt t s .a) seen h .1) ss (r .1)),
+      )
+
+  bads-ok : (section place : ℕ) (bs : List ℕ) → checkBads t section place bs ≡ none → All (BadEntry t) bs
+  unfolding checkBads
+  bads-ok section place [] q = tt
+  bads-ok section place (b ∷ bs) q =
+      let f = faultless (unless (allTrue (badEntry t b)) 6 section place ∷ checkBads t section (suc place) bs ∷ []) q in
+      let h = all-true (badEntry t b) (held (allTrue (badEntry t b)) 6 section place (f .0)) in
+      (record { inside = ltb-true b (length t) (h .0); bad = is-kind Bad (nodeAt t b) (h .1 .0) }, bads-ok section (suc place) bs (f .1 .0))
+
+pub accepted : Accepted
+unfolding Accepted check
+accepted names rs dump ss initial later ins reps e =
+    let t : List Node = map decode rs in
+    let f = faultless (checkNodes names t 0 rs ∷ checkSequentials t 0 [] ss ∷ checkBads t 3 0 initial ∷ checkBads t 4 0 later ∷ []) e in
+    record {
+      rows = λ k l. rules names rs (f .0) k l .0;
+      model = record {
+        nodes = all-legal names rs (f .0);
+        sequentials = sequentials-ok t 0 [] ss (f .1 .0);
+        once = once-ok t 0 [] ss (f .1 .0) .0;
+        initial = bads-ok t 3 0 initial (f .1 .1 .0);
+        later = bads-ok t 4 0 later (f .1 .1 .1 .0);
+      };
+    }

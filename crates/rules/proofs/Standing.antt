@@ -1,0 +1,223 @@
+-- What stands for a node: a node before it with its sort that may serve as an operand, or a constant whose number fits.
+-- What each rule folds a node to stands for it.
+-- Assumes nothing.
+use Prim.Native.Nat.{ℕ, suc, _+_, _<_, _≤_, _^_}
+use mathlib.Core.Path.{_≡_, refl, sym, ap, _∙_, subst}
+use mathlib.Core.Logic.{_≢_, inl, inr}
+use mathlib.Core.Bool.{Bool, true, false, _&&_}
+use mathlib.Core.Option.{Option, none, some}
+use mathlib.Core.List.{List, [], _∷_}
+use native.Mathlib.Omega.{arith}
+use lib.ListN.{length}
+use lib.Dec.{eqb}
+use lib.Bits.{bitAnd, bitOr, and-lt, or-lt}
+use borrow.Author.Tests.{eqb-true, eqb-false, ltb-true}
+use Rattle.btor.specs.Operators.{Op, Reading, compute, complement}
+use Rattle.btor.specs.Sorts.{width, ones}
+use Rattle.rules.specs.Lists.{put}
+use Rattle.rules.specs.Table.{Const, Node, constant, nodeAt, is}
+use Rattle.rules.specs.Check.{knownSort, mayServe}
+use Rattle.rules.specs.Legal.{AllLegal}
+use Rattle.rules.specs.Fold.{Fold, stays, swap, make, shared, constOf, isConst, foldWords, foldTest, foldEq, foldAnd, foldOr, foldNot, foldExt, foldConst}
+use Rattle.rules.specs.Laws.{SortFor, MadeRow}
+use Rattle.rules.proofs.Base.{cases, cases-cond, and-both, inside-or-past, put-other, is-kind, kind-is}
+use Rattle.rules.proofs.Words.{compute-fits, complement-fits, fits-word, width-bit, width-word, ones-bit, known-sort}
+use Rattle.rules.proofs.Legal.{legal-as}
+
+module _ (t : List Node) where
+  -- x is a constant, or a node before k (up to k)
+  abbrev pub Below : ℕ → ℕ → Type 0
+  Below k x = x < length t → x < k
+
+  abbrev pub UpTo : ℕ → ℕ → Type 0
+  UpTo k x = x < length t → x ≤ k
+
+  module _ (rows : ℕ → Node) (made : ℕ) where
+    -- a constant in use that may stand for a node of sort s
+    pub record NewFor (x s : ℕ) : Type 0 where
+      pub inside : x < length t + 2 + made
+      pub const : rows x .kind ≡ Const
+      pub fits : rows x .a < 2 ^ width s
+      pub sort : SortFor (rows x .sort) s
+
+    pub record Stands (x s : ℕ) : Type 0 where
+      pub serve : x < length t → mayServe (nodeAt t x) ≡ true
+      pub sort : x < length t → nodeAt t x .sort ≡ s
+      pub new : length t ≤ x → NewFor x s
+
+    abbrev pub Ref : ℕ → ℕ → ℕ → Type 0
+    Ref k x o = Below k x × Stands x (nodeAt t o .sort)
+
+    -- the operands of a row, each in place of the given one
+    abbrev pub Refs : ℕ → List ℕ → List ℕ → Type 0
+    Refs k [] [] = Unit
+    Refs k [] (o ∷ os) = ⊥
+    Refs k (x ∷ xs) [] = ⊥
+    Refs k (x ∷ xs) (o ∷ os) = Ref k x o × Refs k xs os
+
+    -- what a node k of sort s folds to
+    abbrev pub FoldStands : ℕ → ℕ → Fold → Type 0
+    FoldStands k s stays = Unit
+    FoldStands k s (swap r) = Below k r × Stands r s
+    FoldStands k s (make s′ y) = (y < 2 ^ width s) × MadeRow (constant s′ y) × SortFor s′ s
+
+    abbrev pub ConstFits : Option ℕ → ℕ → Type 0
+    ConstFits none s = Unit
+    ConstFits (some x) s = x < 2 ^ width s
+
+    -- the shared false and true
+    pub record Shares : Type 0 where
+      pub false! : rows (length t) ≡ constant 1 0
+      pub true! : rows (length t + 1) ≡ constant 1 1
+
+  -- ---- a node stands for itself
+  pub stands-itself : (rows : ℕ → Node) (made x : ℕ) → x < length t → mayServe (nodeAt t x) ≡ true → Stands rows made x (nodeAt t x .sort)
+  stands-itself rows made x l h = record { serve = λ _. h; sort = λ _. refl; new = λ i. let o : ⊥ = omega arith in absurd o }
+
+  -- ---- what stands goes on standing when a row of the table is set, and when a constant is made
+  pub stands-row : (rows : ℕ → Node) (made k : ℕ) (nd : Node) → k < length t → (x s : ℕ) → Stands rows made x s → Stands (put rows k nd) made x s
+  stands-row rows made k nd l x s h =
+      record {
+        serve = h .serve;
+        sort = h .sort;
+        new = λ i.
+            let q = h .new i in
+            let e : put rows k nd x ≡ rows x = put-other rows k nd x (λ z. omega arith) in
+            record {
+              inside = q .inside;
+              const = ap (λ (w : Node). w .kind) e ∙ q .const;
+              fits = subst (λ (w : Node). w .a < 2 ^ width s) (sym e) (q .fits);
+              sort = subst (λ (w : Node). SortFor (w .sort) s) (sym e) (q .sort);
+            };
+      }
+
+  pub stands-const : (rows : ℕ → Node) (made : ℕ) (nd : Node) (x s : ℕ) → Stands rows made x s → Stands (put rows (length t + 2 + made) nd) (suc made) x s
+  stands-const rows made nd x s h =
+      record {
+        serve = h .serve;
+        sort = h .sort;
+        new = λ i.
+            let q = h .new i in
+            let e : put rows (length t + 2 + made) nd x ≡ rows x = put-other rows (length t + 2 + made) nd x (λ z. omega (arith, q .inside)) in
+            record {
+              inside = omega (arith, q .inside);
+              const = ap (λ (w : Node). w .kind) e ∙ q .const;
+              fits = subst (λ (w : Node). w .a < 2 ^ width s) (sym e) (q .fits);
+              sort = subst (λ (w : Node). SortFor (w .sort) s) (sym e) (q .sort);
+            };
+      }
+
+  pub refs-map : (rows rows′ : ℕ → Node) (made made′ k : ℕ) → ((x s : ℕ) → Stands rows made x s → Stands rows′ made′ x s)
+      → (xs os : List ℕ) → Refs rows made k xs os → Refs rows′ made′ k xs os
+  refs-map rows rows′ made made′ k f [] [] h = tt
+  refs-map rows rows′ made made′ k f [] (o ∷ os) h = h
+  refs-map rows rows′ made made′ k f (x ∷ xs) [] h = h
+  refs-map rows rows′ made made′ k f (x ∷ xs) (o ∷ os) h = ((h .0 .0, f x (nodeAt t o .sort) (h .0 .1)), refs-map rows rows′ made made′ k f xs os (h .1))
+
+  -- ---- the number of a constant that stands for a node fits
+  pub const-fits : AllLegal t → (rows : ℕ → Node) (made x s : ℕ) → (x < length t → rows x .kind ≡ nodeAt t x .kind) → (x < length t → is Const (nodeAt t x) ≡ true → rows x .a ≡ nodeAt t x .a)
+      → Stands rows made x s → ConstFits rows made (constOf rows x) s
+  const-fits legal rows made x s kinds numbers h =
+      cases (λ c. ConstFits rows made c s) (is Const (rows x))
+      (λ e. inside-or-past (rows x .a < 2 ^ width s) x (length t)
+      (λ l.
+      let q : nodeAt t x .kind ≡ Const = sym (kinds l) ∙ is-kind Const (rows x) e in
+      let g = legal-as t x Const (nodeAt t x) q (legal x l) in
+      let z : nodeAt t x .a < 2 ^ width (nodeAt t x .sort) = ltb-true _ _ (g .sorts .1 .0) in
+      subst (λ i. i < 2 ^ width s) (sym (numbers l (kind-is Const (nodeAt t x) q))) (subst (λ i. nodeAt t x .a < 2 ^ width i) (h .sort l) z))
+      (λ l. h .new l .fits))
+      (λ _. tt)
+
+  module _ (rows : ℕ → Node) (made : ℕ) (sh : Shares rows made) where
+    -- the shared constants stand for nodes of sort 1
+    shared-stands : (s r x : ℕ) → length t ≤ r → r < length t + 2 → x < 2 → rows r ≡ constant 1 x → s ≡ 1 → Stands rows made r s
+    shared-stands s r x l u b e q =
+        record {
+          serve = λ i. let o : ⊥ = omega arith in absurd o;
+          sort = λ i. let o : ⊥ = omega arith in absurd o;
+          new = λ _.
+              record {
+                inside = omega arith;
+                const = ap (λ (w : Node). w .kind) e;
+                fits = subst (λ (w : Node). w .a < 2 ^ width s) (sym e) (subst (λ i. x < 2 ^ width i) (sym q) (subst (λ w. x < 2 ^ w) (sym width-bit) b));
+                sort = subst (λ (w : Node). SortFor (w .sort) s) (sym e) (inl (sym q));
+              };
+        }
+
+    pub shared-fold : (k s : ℕ) (b : Bool) → s ≡ 1 → FoldStands rows made k s (shared (length t) b)
+    shared-fold k s true q = ((λ i. let o : ⊥ = omega arith in absurd o), shared-stands s (length t + 1) 1 (omega arith) (omega arith) (omega arith) (sh .true!) q)
+    shared-fold k s false q = ((λ i. let o : ⊥ = omega arith in absurd o), shared-stands s (length t) 0 (omega arith) (omega arith) (omega arith) (sh .false!) q)
+
+    made-row : (s y : ℕ) → s ≢ 3 → y < 2 ^ width s → MadeRow (constant s y)
+    made-row s y n h = record { const = refl; sort = n; fits = h }
+
+    -- a new constant of the node's own sort
+    pub own-fold : (k s y : ℕ) → s ≢ 3 → y < 2 ^ width s → FoldStands rows made k s (make s y)
+    own-fold k s y n h = (h, made-row s y n h, inl refl)
+
+    -- and one of sort 2, for a node of sort 2
+    word-fold : (k s y : ℕ) → s ≡ 2 → y < 2 ^ 64 → FoldStands rows made k s (make 2 y)
+    word-fold k s y e h = subst (λ i. FoldStands rows made k i (make 2 y)) (sym e) (own-fold k 2 y (λ z. omega arith) (subst (λ w. y < 2 ^ w) (sym width-word) h))
+
+    pub words-fold : (k s : ℕ) (how : Reading) (op : Op) (cx cy : Option ℕ) → s ≡ 2 → ConstFits rows made cx 2 → FoldStands rows made k s (foldWords (compute how op) cx cy)
+    words-fold k s how op none cy e h = tt
+    words-fold k s how op (some x) none e h = tt
+    words-fold k s how op (some x) (some y) e h = word-fold k s (compute how op x y) e (compute-fits how op x y (fits-word 2 x h))
+
+    pub test-fold : (k s : ℕ) (f : ℕ → ℕ → Bool) (cx cy : Option ℕ) → s ≡ 1 → FoldStands rows made k s (foldTest (length t) f cx cy)
+    test-fold k s f none cy e = tt
+    test-fold k s f (some x) none e = tt
+    test-fold k s f (some x) (some y) e = shared-fold k s (f x y) e
+
+    pub eq-fold : (k s x y : ℕ) (cx cy : Option ℕ) → s ≡ 1 → FoldStands rows made k s (foldEq (length t) x y cx cy)
+    eq-fold k s x y cx cy e = cases-cond (FoldStands rows made k s) (eqb x y) (λ _. shared-fold k s true e) (λ _. test-fold k s eqb cx cy e)
+
+    pub not-fold : (k s : ℕ) (cx : Option ℕ) → s ≢ 3 → FoldStands rows made k s (foldNot (length t) s cx)
+    not-fold k s none n = tt
+    not-fold k s (some x) n =
+        cases-cond (FoldStands rows made k s) (eqb s 1 && eqb x 0) (λ e. shared-fold k s true (eqb-true s 1 (and-both _ _ e .0)))
+        (λ _. cases-cond (FoldStands rows made k s) (eqb s 1 && eqb x 1) (λ e. shared-fold k s false (eqb-true s 1 (and-both _ _ e .0)))
+        (λ _. own-fold k s (complement (width s) x) n (complement-fits (width s) x)))
+
+    pub ext-fold : (k s s₀ : ℕ) (cx : Option ℕ) → s ≡ 2 → ConstFits rows made cx s₀ → FoldStands rows made k s (foldExt cx)
+    ext-fold k s s₀ none e h = tt
+    ext-fold k s s₀ (some x) e h = word-fold k s x e (fits-word s₀ x h)
+
+    pub const-fold : (k s x : ℕ) → FoldStands rows made k s (foldConst (length t) s x)
+    const-fold k s x =
+        cases-cond (FoldStands rows made k s) (eqb s 1 && eqb x 0) (λ e. shared-fold k s false (eqb-true s 1 (and-both _ _ e .0)))
+        (λ _. cases-cond (FoldStands rows made k s) (eqb s 1 && eqb x 1) (λ e. shared-fold k s true (eqb-true s 1 (and-both _ _ e .0))) (λ _. tt))
+
+    -- ---- And and Or
+    module _ (k s x y : ℕ) (cx cy : Option ℕ) (known : knownSort s ≡ true) (ne : s ≢ 3) (bx : Below k x) (by : Below k y)
+        (sx : Stands rows made x s) (sy : Stands rows made y s) (fx : ConstFits rows made cx s) (fy : ConstFits rows made cy s) where
+      -- two constants that are neither zeros nor ones are not of sort 1
+      last-fold : (f : ℕ → ℕ → ℕ) → ((a b : ℕ) → a < 2 ^ width s → b < 2 ^ width s → f a b < 2 ^ width s)
+          → (c d : Option ℕ) → ConstFits rows made c s → ConstFits rows made d s → isConst c 0 ≡ false → isConst c (ones s) ≡ false → FoldStands rows made k s (foldWords f c d)
+      last-fold f h none d fc fd z o = tt
+      last-fold f h (some p) none fc fd z o = tt
+      last-fold f h (some p) (some q) fc fd z o =
+          let fit = h p q fc fd in
+          let row : MadeRow (constant 2 (f p q)) = made-row 2 (f p q) (λ e. omega arith) (subst (λ w. f p q < 2 ^ w) (sym width-word) (fits-word s (f p q) fit)) in
+          known-sort _ s known
+          (λ e.
+          let one : ones s ≡ 1 = ap ones e ∙ ones-bit in
+          let two : 2 ^ width s ≡ 2 = ap (λ i. 2 ^ width i) e ∙ ap (λ w. 2 ^ w) width-bit in
+          let a = eqb-false p 0 z in
+          let b : p ≡ 1 → ⊥ = λ i. eqb-false p (ones s) o (i ∙ sym one) in
+          let i : ⊥ = omega (arith, fc, two, a, b) in absurd i)
+          (λ e. (fit, row, inl (sym e)))
+          (λ e. absurd (ne e))
+          (λ e. (fit, row, inr (refl, e .0, e .1)))
+
+      pub and-fold : FoldStands rows made k s (foldAnd (ones s) x y cx cy)
+      and-fold =
+          cases-cond (FoldStands rows made k s) (isConst cx 0) (λ _. (bx, sx)) (λ z. cases-cond (FoldStands rows made k s) (isConst cy 0) (λ _. (by, sy))
+          (λ _. cases-cond (FoldStands rows made k s) (isConst cx (ones s)) (λ _. (by, sy)) (λ o. cases-cond (FoldStands rows made k s) (isConst cy (ones s)) (λ _. (bx, sx))
+          (λ _. last-fold bitAnd (λ a b i j. and-lt (width s) a b i j) cx cy fx fy z o))))
+
+      pub or-fold : FoldStands rows made k s (foldOr (ones s) x y cx cy)
+      or-fold =
+          cases-cond (FoldStands rows made k s) (isConst cx 0) (λ _. (by, sy)) (λ z. cases-cond (FoldStands rows made k s) (isConst cy 0) (λ _. (bx, sx))
+          (λ _. cases-cond (FoldStands rows made k s) (isConst cx (ones s)) (λ _. (bx, sx)) (λ o. cases-cond (FoldStands rows made k s) (isConst cy (ones s)) (λ _. (by, sy))
+          (λ _. last-fold bitOr (λ a b i j. or-lt (width s) a b i j) cx cy fx fy z o))))

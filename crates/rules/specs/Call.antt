@@ -1,0 +1,168 @@
+-- A call: from the mode, the words, the names bytes and the room lent to the answer and every word handed back (document 01).
+--     outcome            the stages of a call, joined by the first refusal
+--     left               the answer, the result buffer and the scratch buffer after a call
+--     optimizeModelImpl, optimizeModelWithSolver, optimizeModelWithInput   the three entry points
+-- Assumes nothing.
+use Prim.Native.Nat.{ℕ, _+_, _-_}
+use mathlib.Core.Path.{_≡_}
+use mathlib.Core.Bool.{true, false}
+use mathlib.Core.List.{List, [], _++_, flatten}
+use lib.ListN.{length, replicate}
+use lib.Dec.{ltb}
+use Rattle.rules.specs.Value.{Value}
+use Rattle.rules.specs.Refusal.{Out, refused, done, refuse, _>>=_, unlessRefused}
+use Rattle.rules.specs.Check.{check}
+use Rattle.rules.specs.Model.{Model, Mode, modelOf}
+use Rattle.rules.specs.Whole.{Folded, fold, run}
+use Rattle.rules.specs.Result.{resultWords}
+use Rattle.rules.specs.Demand.{NonePassed, Faithful, RepliesHold, Keeps}
+use Rattle.rules.specs.Limits.{Limits, house, need, highestMode, modeOf}
+use Rattle.rules.specs.Sections.{Sections, cut}
+use Rattle.rules.specs.Names.{namesOf, dump}
+
+-- what a caller hands over: the buffers result and scratch count by their lengths alone
+pub record Call : Type 0 where
+  pub mode : ℕ
+  pub words : List ℕ
+  pub names : List ℕ
+  pub resultRoom : ℕ
+  pub scratchRoom : ℕ
+
+-- ---- the stages, in order
+-- "a mode above 7 is 1 (section 0, position 0)"
+unfoldable pub judgeMode : ℕ → Out Mode
+judgeMode mode = elim (ltb highestMode mode) [ true ↦ refuse 1 0 0 | false ↦ done (modeOf mode) ]
+
+-- n nodes, s sequentials, b bad entries in all and i inputs
+abbrev pub needOf : Sections → ℕ
+needOf s = need (length (s .rows)) (length (s .sequentials)) (length (s .initial) + length (s .later)) (length (s .inputs))
+
+-- "12 no room (section 8; position 0 result, 1 scratch)", "12, result first"
+unfoldable pub judgeRoom : ℕ → ℕ → ℕ → Out (Unit {0})
+judgeRoom words resultRoom scratchRoom =
+    elim (ltb resultRoom words) [
+      | true ↦ refuse 12 8 0
+      | false ↦ elim (ltb scratchRoom words) [ true ↦ refuse 12 8 1 | false ↦ done tt ]
+    ]
+
+-- which of the Rust's three functions is called
+pub data Entry : Type 0 where
+  impl withSolver withInput : Entry
+
+-- "`optimize_model_with_solver` brings no inputs, and `optimize_model_with_input` is mode 0 with no solver replies"
+abbrev pub brought : Entry → Sections → Sections
+brought impl s = s
+brought withSolver s = record { rows = s .rows; sequentials = s .sequentials; initial = s .initial; later = s .later; inputs = []; replies = s .replies }
+brought withInput s = record { rows = s .rows; sequentials = s .sequentials; initial = s .initial; later = s .later; inputs = s .inputs; replies = [] }
+
+-- the model in the sections: rows decoded, and which names start with "memory-dump"
+abbrev pub modelFrom : List (List ℕ) → Sections → Model
+modelFrom names s = modelOf (s .rows) (dump names) (s .sequentials) (s .initial) (s .later) (s .inputs) (s .replies)
+
+-- what an accepted call comes to
+pub record Accepted : Type 0 where
+  pub how : Mode
+  pub model : Model
+  pub folded : Folded
+
+-- "nodes rising, 3, 4, 5; lists in order, each entry 6 then 7; then the walk as met": refusals 3 to 7 read neither inputs nor replies
+unfoldable pub judgeAndFold : Entry → Mode → Sections → List (List ℕ) → Out Accepted
+judgeAndFold entry how s names =
+    let m : Model = modelFrom names (brought entry s) in
+    run (length names) (s .rows) m how >>= λ f. done (record { how = how; model = m; folded = f })
+
+-- the stages after the cuts
+unfoldable pub judgeCut : Entry → Mode → Sections → List (List ℕ) → ℕ → ℕ → Out Accepted
+judgeCut entry how s names resultRoom scratchRoom = do
+  _ ← judgeRoom (needOf s) resultRoom scratchRoom
+  judgeAndFold entry how s names
+
+-- "Order: a mode above 7 ..; sections 1 to 7, each 2 before 1; 12, result first; nodes ..; lists ..; then the walk as met."
+unfoldable pub outcome : Limits → Entry → Call → Out Accepted
+outcome limits entry call = do
+  how ← judgeMode (call .mode)
+  s ← cut limits (call .words)
+  names ← namesOf limits (call .names)
+  judgeCut entry how s names (call .resultRoom) (call .scratchRoom)
+
+-- what is known once a call's words and names are judged, before the walk
+pub record Judged : Type 0 where
+  pub how : Mode
+  pub sections : Sections
+  pub names : List (List ℕ)
+
+-- the stages before the walk: mode, sections 1 to 7, room, nodes, lists
+unfoldable pub judged : Limits → Call → Out Judged
+judged limits call = do
+  how ← judgeMode (call .mode)
+  s ← cut limits (call .words)
+  names ← namesOf limits (call .names)
+  _ ← judgeRoom (needOf s) (call .resultRoom) (call .scratchRoom)
+  unlessRefused (check (length names) (s .rows) (modelFrom names s)) (done (record { how = how; sections = s; names = names }))
+
+-- the walk of a judged call: outcome is this after judged (proofs/Judged)
+abbrev pub foldJudged : Entry → Judged → Out Accepted
+foldJudged entry j =
+    let m : Model = modelFrom (j .names) (brought entry (j .sections)) in
+    fold m (j .how) >>= λ f. done (record { how = j .how; model = m; folded = f })
+
+-- ---- what is handed back
+-- "Result sections: rewritten nodes; made constants; replacements; the three kept lists; inputs left; questions; a tally of 5."
+abbrev pub sectionsOf : Accepted → List (List ℕ)
+sectionsOf a = resultWords (a .model) (a .folded)
+
+-- the sections one after the other
+abbrev pub wordsOf : Accepted → List ℕ
+wordsOf a = flatten (sectionsOf a)
+
+-- number 0 is acceptance, with how many words the result has; a refusal "carries number, section, position"
+pub record Answer : Type 0 where
+  pub number : ℕ
+  pub section : ℕ
+  pub position : ℕ
+  pub words : ℕ
+
+-- what an entry point answers
+abbrev pub answerOf : Out Accepted → Answer
+answerOf (refused r) = record { number = r .reason; section = r .section; position = r .position; words = 0 }
+answerOf (done a) = record { number = 0; section = 0; position = 0; words = length (wordsOf a) }
+
+-- "Words past the result are 0"; "A refusal leaves the result and scratch buffers all zero."
+abbrev pub resultOf : ℕ → Out Accepted → List ℕ
+resultOf room (refused r) = replicate room 0
+resultOf room (done a) = wordsOf a ++ replicate (room - length (wordsOf a)) 0
+
+-- the answer and every word of both buffers after a call
+pub record Left : Type 0 where
+  pub answer : Answer
+  pub result : List ℕ
+  pub scratch : List ℕ
+
+-- "scratch is 0 after each call"
+unfoldable pub left : Limits → Entry → Call → Left
+left limits entry call =
+    let o : Out Accepted = outcome limits entry call in
+    record { answer = answerOf o; result = resultOf (call .resultRoom) o; scratch = replicate (call .scratchRoom) 0 }
+
+-- ---- the three entry points, with the house's limits
+-- "The reference is `optimize_model_impl`"
+abbrev pub optimizeModelImpl : ℕ → List ℕ → List ℕ → ℕ → ℕ → Left
+optimizeModelImpl mode words names r s = left house impl (record { mode = mode; words = words; names = names; resultRoom = r; scratchRoom = s })
+
+-- "brings no inputs": judged as given, folded as though section 5 were empty
+abbrev pub optimizeModelWithSolver : ℕ → List ℕ → List ℕ → ℕ → ℕ → Left
+optimizeModelWithSolver mode words names r s = left house withSolver (record { mode = mode; words = words; names = names; resultRoom = r; scratchRoom = s })
+
+-- "mode 0 with no solver replies": judged as given, folded as though section 6 were empty
+abbrev pub optimizeModelWithInput : List ℕ → List ℕ → ℕ → ℕ → Left
+optimizeModelWithInput words names r s = left house withInput (record { mode = 0; words = words; names = names; resultRoom = r; scratchRoom = s })
+
+-- ---- demand 3, of every call that is not refused
+unfoldable pub Demand3OfCall : Type 0
+Demand3OfCall =
+    (limits : Limits) (entry : Entry) (call : Call) (a : Accepted) → outcome limits entry call ≡ done a
+    → NonePassed (a .how .reading) (a .folded)
+    → ((α : ℕ → Value) → Faithful (a .how .reading) (a .model .table) (a .model .sequentials) (a .folded .state) α
+    → RepliesHold (a .how .reading) (a .model .table) α (a .folded .state))
+    → (α : ℕ → Value) → Faithful (a .how .reading) (a .model .table) (a .model .sequentials) (a .folded .state) α
+    → Keeps (a .how .reading) (a .model .table) (a .folded) α

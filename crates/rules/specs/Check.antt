@@ -1,0 +1,136 @@
+-- What a table and its lists must be: refusals 3 to 7 (document 01, "The house tables", "Refused, by whose hand").
+--     rule3, rule4, rule5             words and names, operands before, sorts
+--     checkSequentials, checkBads     the lists, each entry 6 then 7
+--     check                           all of them in order: nodes rising, then lists in order
+-- Assumes nothing.
+use Prim.Native.Nat.{ℕ, suc}
+use mathlib.Core.Bool.{Bool, true, false, cond, _&&_, _||_, not}
+use mathlib.Core.Option.{Option, none}
+use mathlib.Core.List.{List, [], _∷_}
+use lib.ListN.{length}
+use lib.Dec.{ltb, leb, eqb}
+use Rattle.btor.specs.Sorts.{sortOf}
+use Rattle.btor.specs.declared.node_type.CodedSort.{CodedSort}
+use Rattle.btor.specs.declared.node_type.CodedSort.the-variants.{Known, Unknown}
+use Rattle.rules.specs.Lists.{allTrue, every, member}
+use Rattle.rules.specs.Refusal.{Refusal, unless, firstOf}
+use Rattle.rules.specs.Table.{Kind, Const, Read, Write, Word, Ult, Ext, Ite, Eq, And, Or, Not, State, Next, Input, Bad, kinds, Row, Node, decode, is, nodeAt, operands, fits}
+use Rattle.rules.specs.Model.{Model}
+
+-- ---- 3: "unknown kind or sort code, a word that must be 0 or a name rule broken"
+abbrev pub knownKind : ℕ → Bool
+knownKind k = ltb 0 k && leb k (length kinds)
+
+abbrev pub isKnown : CodedSort → Bool
+isKnown (Known s) = true
+isKnown Unknown = false
+
+abbrev pub knownSort : ℕ → Bool
+knownSort s = isKnown (sortOf s)
+
+-- "Unused words are 0"; "State: b is 1 with an init in a, else both are 0"
+abbrev pub unusedAs : Kind → Node → List ℕ
+unusedAs Const nd = nd .b ∷ nd .c ∷ []
+unusedAs Read nd = nd .c ∷ []
+unusedAs Write nd = []
+unusedAs (Word op) nd = nd .c ∷ []
+unusedAs Ult nd = nd .c ∷ []
+unusedAs Ext nd = nd .c ∷ []
+unusedAs Ite nd = []
+unusedAs Eq nd = nd .c ∷ []
+unusedAs And nd = nd .c ∷ []
+unusedAs Or nd = nd .c ∷ []
+unusedAs Not nd = nd .b ∷ nd .c ∷ []
+unusedAs State nd = cond (eqb (nd .b) 1) (nd .c ∷ []) (nd .a ∷ nd .b ∷ nd .c ∷ [])
+unusedAs Next nd = nd .c ∷ []
+unusedAs Input nd = nd .a ∷ nd .b ∷ nd .c ∷ []
+unusedAs Bad nd = nd .b ∷ nd .c ∷ []
+
+-- "a k past the last breaks the name rule. State and Bad may have one, Input must, others must not"
+abbrev pub named : ℕ → Node → List Bool
+named names nd =
+    leb (nd .name) names
+    ∷ (eqb (nd .name) 0 || is State nd || is Bad nd || is Input nd)
+    ∷ (not (eqb (nd .name) 0) || not (is Input nd))
+    ∷ []
+
+abbrev pub rule3 : ℕ → Row → Bool
+rule3 names r =
+    let nd : Node = decode r in
+    allTrue (knownKind (r .code)
+    ∷ knownSort (r .sort)
+    ∷ (not (is Ext nd) || knownSort (nd .b))
+    ∷ every (λ x. eqb x 0) (unusedAs (nd .kind) nd)
+    ∷ named names nd)
+
+-- ---- 4: "operand not before its node": each is below the bound, which is the node itself
+abbrev pub rule4 : ℕ → Node → Bool
+rule4 bound nd = every (λ x. ltb x bound) (operands nd)
+
+-- ---- 5: sorts
+-- "Next and Bad are never operands"
+abbrev pub mayServe : Node → Bool
+mayServe nd = not (is Next nd || is Bad nd)
+
+-- the paragraph on sorts: s x is the sort of node x
+abbrev pub sortedAs : List Node → (ℕ → ℕ) → Kind → Node → List Bool
+sortedAs t s Const nd = not (eqb (nd .sort) 3) ∷ fits (nd .sort) (nd .a) ∷ []
+sortedAs t s Read nd = eqb (nd .sort) 2 ∷ eqb (s (nd .a)) 3 ∷ eqb (s (nd .b)) 2 ∷ []
+sortedAs t s Write nd = eqb (nd .sort) 3 ∷ eqb (s (nd .a)) 3 ∷ eqb (s (nd .b)) 2 ∷ eqb (s (nd .c)) 2 ∷ []
+sortedAs t s (Word op) nd = eqb (nd .sort) 2 ∷ eqb (s (nd .a)) 2 ∷ eqb (s (nd .b)) 2 ∷ []
+sortedAs t s Ult nd = eqb (nd .sort) 1 ∷ eqb (s (nd .a)) (s (nd .b)) ∷ not (eqb (s (nd .a)) 3) ∷ []
+sortedAs t s Ext nd = eqb (nd .sort) 2 ∷ eqb (s (nd .a)) (nd .b) ∷ not (eqb (s (nd .a)) 3) ∷ []
+sortedAs t s Ite nd = eqb (s (nd .a)) 1 ∷ eqb (s (nd .b)) (nd .sort) ∷ eqb (s (nd .c)) (nd .sort) ∷ []
+sortedAs t s Eq nd = eqb (nd .sort) 1 ∷ eqb (s (nd .a)) (s (nd .b)) ∷ not (eqb (s (nd .a)) 3) ∷ []
+sortedAs t s And nd = not (eqb (nd .sort) 3) ∷ eqb (s (nd .a)) (nd .sort) ∷ eqb (s (nd .b)) (nd .sort) ∷ []
+sortedAs t s Or nd = not (eqb (nd .sort) 3) ∷ eqb (s (nd .a)) (nd .sort) ∷ eqb (s (nd .b)) (nd .sort) ∷ []
+sortedAs t s Not nd = not (eqb (nd .sort) 3) ∷ eqb (s (nd .a)) (nd .sort) ∷ []
+sortedAs t s State nd = cond (eqb (nd .b) 1) (eqb (s (nd .a)) (nd .sort) ∷ []) []
+sortedAs t s Next nd = is State (nodeAt t (nd .a)) ∷ eqb (s (nd .a)) (nd .sort) ∷ eqb (s (nd .b)) (nd .sort) ∷ []
+sortedAs t s Input nd = []
+sortedAs t s Bad nd = eqb (nd .sort) 1 ∷ eqb (s (nd .a)) 1 ∷ []
+
+abbrev pub sorted : List Node → Node → List Bool
+sorted t nd = sortedAs t (λ x. nodeAt t x .sort) (nd .kind) nd
+
+abbrev pub rule5 : List Node → Node → Bool
+rule5 t nd = every (λ x. mayServe (nodeAt t x)) (operands nd) && allTrue (sorted t nd)
+
+-- ---- "nodes rising, 3, 4, 5": 3, 4, 5 name the node (section 1)
+abbrev pub checkNode : ℕ → List Node → ℕ → Row → Option Refusal
+checkNode names t k r =
+    firstOf (unless (rule3 names r) 3 1 k ∷ unless (rule4 k (decode r)) 4 1 k ∷ unless (rule5 t (decode r)) 5 1 k ∷ [])
+
+unfoldable pub checkNodes : ℕ → List Node → ℕ → List Row → Option Refusal
+checkNodes names t k [] = none
+checkNodes names t k (r ∷ rs) = firstOf (checkNode names t k r ∷ checkNodes names t (suc k) rs ∷ [])
+
+-- ---- the lists: 6 and 7 name the list's section and place as given
+-- 6: "list entry past the table or of the wrong kind, or a Next whose state has no init"
+abbrev pub sequentialEntry : List Node → ℕ → List Bool
+sequentialEntry t s = ltb s (length t) ∷ is Next (nodeAt t s) ∷ eqb (nodeAt t (nodeAt t s .a) .b) 1 ∷ []
+
+abbrev pub badEntry : List Node → ℕ → List Bool
+badEntry t b = ltb b (length t) ∷ is Bad (nodeAt t b) ∷ []
+
+-- 7: "a second sequential for one state"; seen holds the states of the sequentials before
+unfoldable pub checkSequentials : List Node → ℕ → List ℕ → List ℕ → Option Refusal
+checkSequentials t place seen [] = none
+checkSequentials t place seen (s ∷ ss) =
+    firstOf (unless (allTrue (sequentialEntry t s)) 6 2 place
+    ∷ unless (not (member (nodeAt t s .a) seen)) 7 2 place
+    ∷ checkSequentials t (suc place) (nodeAt t s .a ∷ seen) ss
+    ∷ [])
+
+unfoldable pub checkBads : List Node → ℕ → ℕ → List ℕ → Option Refusal
+checkBads t section place [] = none
+checkBads t section place (b ∷ bs) = firstOf (unless (allTrue (badEntry t b)) 6 section place ∷ checkBads t section (suc place) bs ∷ [])
+
+-- "nodes rising, 3, 4, 5; lists in order, each entry 6 then 7": m's table is the rows decoded
+unfoldable pub check : ℕ → List Row → Model → Option Refusal
+check names rs m =
+    firstOf (checkNodes names (m .table) 0 rs
+    ∷ checkSequentials (m .table) 0 [] (m .sequentials)
+    ∷ checkBads (m .table) 3 0 (m .initial)
+    ∷ checkBads (m .table) 4 0 (m .later)
+    ∷ [])

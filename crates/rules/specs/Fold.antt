@@ -1,0 +1,82 @@
+-- What a node folds to, from its rewritten operands (document 01, "Folding"; the fold functions of optimize.rs).
+--     Fold     it stays, or another node or a new constant takes its place
+--     constOf  the number of a constant          shared    the shared false or true
+-- In each rule x and y are the rewritten operands, cx and cy their numbers where they are constants, and n is the shared false.
+-- Assumes nothing.
+use Prim.Native.Nat.{ℕ, _+_}
+use mathlib.Core.Bool.{Bool, true, false, cond, _&&_}
+use mathlib.Core.Option.{Option, none, some}
+use lib.Dec.{eqb}
+use Rattle.btor.specs.Operators.{both, either, complement, same, extend}
+use Rattle.btor.specs.Sorts.{width}
+use Rattle.rules.specs.Table.{Const, Node, is}
+
+pub data Fold : Type 0 where
+  stays : Fold
+  swap : ℕ → Fold
+  make : ℕ → ℕ → Fold
+
+abbrev pub constOf : (ℕ → Node) → ℕ → Option ℕ
+constOf rows r = elim (is Const (rows r)) [ true ↦ some (rows r .a) | false ↦ none ]
+
+abbrev pub isConst : Option ℕ → ℕ → Bool
+isConst none x = false
+isConst (some y) x = eqb y x
+
+abbrev pub shared : ℕ → Bool → Fold
+shared n true = swap (n + 1)
+shared n false = swap n
+
+-- "Const of sort 1 becomes the shared false or true."
+abbrev pub foldConst : ℕ → ℕ → ℕ → Fold
+foldConst n s x =
+    cond (eqb s 1 && eqb x 0) (shared n false)
+    (cond (eqb s 1 && eqb x 1) (shared n true)
+    stays)
+
+-- "Two constant operands fold"; "The constant made has sort 2, also under And and Or of sorts 11 to 17."
+abbrev pub foldWords : (ℕ → ℕ → ℕ) → Option ℕ → Option ℕ → Fold
+foldWords f none cy = stays
+foldWords f (some x) none = stays
+foldWords f (some x) (some y) = make 2 (f x y)
+
+-- "Ult, Eq give shared constants"
+abbrev pub foldTest : ℕ → (ℕ → ℕ → Bool) → Option ℕ → Option ℕ → Fold
+foldTest n f none cy = stays
+foldTest n f (some x) none = stays
+foldTest n f (some x) (some y) = shared n (f x y)
+
+-- "Eq of one node with itself is true."
+abbrev pub foldEq : ℕ → ℕ → ℕ → Option ℕ → Option ℕ → Fold
+foldEq n x y cx cy = cond (eqb x y) (shared n true) (foldTest n same cx cy)
+
+-- "Ult, Eq give shared constants; so does Not of sort 1. Not of another sort, over a constant, makes the complement within the Not's width, of the Not's sort"
+abbrev pub foldNot : ℕ → ℕ → Option ℕ → Fold
+foldNot n s none = stays
+foldNot n s (some x) =
+    cond (eqb s 1 && eqb x 0) (shared n true)
+    (cond (eqb s 1 && eqb x 1) (shared n false)
+    (make s (complement (width s) x)))
+
+-- "Ext of a constant makes the same number with sort 2."
+abbrev pub foldExt : Option ℕ → Fold
+foldExt none = stays
+foldExt (some x) = make 2 (extend x)
+
+-- "And tries left zero, right zero, left ones, right ones; zeros win, ones yield the other side."; all is all ones of the node's sort
+abbrev pub foldAnd : ℕ → ℕ → ℕ → Option ℕ → Option ℕ → Fold
+foldAnd all x y cx cy =
+    cond (isConst cx 0) (swap x)
+    (cond (isConst cy 0) (swap y)
+    (cond (isConst cx all) (swap y)
+    (cond (isConst cy all) (swap x)
+    (foldWords both cx cy))))
+
+-- "Or: left zero, right zero yield the other; left ones, right ones win."
+abbrev pub foldOr : ℕ → ℕ → ℕ → Option ℕ → Option ℕ → Fold
+foldOr all x y cx cy =
+    cond (isConst cx 0) (swap y)
+    (cond (isConst cy 0) (swap x)
+    (cond (isConst cx all) (swap x)
+    (cond (isConst cy all) (swap y)
+    (foldWords either cx cy))))

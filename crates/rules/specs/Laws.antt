@@ -1,0 +1,83 @@
+-- What a fold leaves, in laws that later work leans on: of replacements, of made constants, of rewritten rows.
+-- Each is of every well-formed model that folds without refusal; the last is of the visits themselves.
+-- Assumes nothing.
+use Prim.Native.Nat.{ℕ, _+_, _<_, _≤_, _^_}
+use mathlib.Core.Path.{_≡_}
+use mathlib.Core.Logic.{_≢_, _⊎_}
+use mathlib.Core.Bool.{true}
+use mathlib.Core.Option.{some}
+use mathlib.Core.List.{List}
+use lib.ListN.{length}
+use Rattle.btor.specs.Sorts.{width}
+use Rattle.rules.specs.Lists.{All}
+use Rattle.rules.specs.Refusal.{done}
+use Rattle.rules.specs.Table.{Const, Ext, State, Next, Node, nodeAt, is, operands}
+use Rattle.rules.specs.Model.{Model, Mode}
+use Rattle.rules.specs.Check.{mayServe}
+use Rattle.rules.specs.Legal.{AllLegal, WellFormed}
+use Rattle.rules.specs.Walk.{St, replaced}
+use Rattle.rules.specs.Fold.{constOf}
+use Rattle.rules.specs.Visit.{Ways, visitMarked, visitTop}
+use Rattle.rules.specs.Whole.{Folded, fold}
+
+-- P holds of whatever a fold leaves
+abbrev pub OfFolds : (List Node → St → Type 0) → Type 0
+OfFolds P = (m : Model) (how : Mode) (f : Folded) → WellFormed m → fold m how ≡ done f → P (m .table) (f .state)
+
+-- x is a constant: shared false, shared true or a made one
+abbrev pub IsNew : List Node → St → ℕ → Type 0
+IsNew t σ x = (length t ≤ x) × (x < length t + 2 + σ .made)
+
+-- a constant of sort s may stand for a node of sort s₀: it has that sort, or it is of sort 2 in place of one of 11 to 17
+abbrev pub SortFor : ℕ → ℕ → Type 0
+SortFor s s₀ = (s ≡ s₀) ⊎ ((s ≡ 2) × (11 ≤ s₀) × (s₀ ≤ 17))
+
+-- "each replacement is a constant or stands before its node"
+unfoldable pub ReplacementBefore : Type 0
+ReplacementBefore = OfFolds (λ t σ. (k r : ℕ) → k < length t → σ .mark k ≡ replaced r → (r < k) ⊎ IsNew t σ r)
+
+-- it is no Next and no Bad
+unfoldable pub ReplacementServes : Type 0
+ReplacementServes = OfFolds (λ t σ. (k r : ℕ) → k < length t → σ .mark k ≡ replaced r → r < length t → mayServe (nodeAt t r) ≡ true)
+
+-- a node has the replaced node's sort; a constant may stand for it
+unfoldable pub ReplacementSort : Type 0
+ReplacementSort =
+    OfFolds (λ t σ. (k r : ℕ) → k < length t → σ .mark k ≡ replaced r
+    → (r < length t → nodeAt t r .sort ≡ nodeAt t k .sort) × (length t ≤ r → SortFor (σ .rows r .sort) (nodeAt t k .sort)))
+
+-- a constant's number fits the replaced node's width
+unfoldable pub ReplacementFits : Type 0
+ReplacementFits =
+    OfFolds (λ t σ. (k r x : ℕ) → k < length t → σ .mark k ≡ replaced r → constOf (σ .rows) r ≡ some x → x < 2 ^ width (nodeAt t k .sort))
+
+-- every number from n on that is in use is a Const of a sort other than 3, and its number fits that sort
+pub record MadeRow (nd : Node) : Type 0 where
+  pub const : nd .kind ≡ Const
+  pub sort : nd .sort ≢ 3
+  pub fits : nd .a < 2 ^ width (nd .sort)
+
+unfoldable pub MadeFits : Type 0
+MadeFits = OfFolds (λ t σ. (r : ℕ) → IsNew t σ r → MadeRow (σ .rows r))
+
+-- a rewritten row keeps its kind, sort and name, a Const its number, an Ext its from, a State its b, a Next its state
+pub record SameNode (nd g : Node) : Type 0 where
+  pub kind : nd .kind ≡ g .kind
+  pub sort : nd .sort ≡ g .sort
+  pub name : nd .name ≡ g .name
+  pub number : is Const g ≡ true → nd .a ≡ g .a
+  pub from : is Ext g ≡ true → nd .b ≡ g .b
+  pub init : is State g ≡ true → nd .b ≡ g .b
+  pub state : is Next g ≡ true → nd .a ≡ g .a
+
+unfoldable pub RowKeeps : Type 0
+RowKeeps = OfFolds (λ t σ. (k : ℕ) → k < length t → SameNode (σ .rows k) (nodeAt t k))
+
+-- each operand of a rewritten row is below the row or a constant
+unfoldable pub OperandsBelow : Type 0
+OperandsBelow = OfFolds (λ t σ. (k : ℕ) → k < length t → All (λ x. (x < k) ⊎ IsNew t σ x) (operands (σ .rows k)))
+
+-- fuel is bookkeeping: in a legal table a visit from a list is the rule of visits over itself
+unfoldable pub VisitRule : Type 0
+VisitRule =
+    (t : List Node) (ways : Ways) → AllLegal t → (σ : St) (k : ℕ) → k < length t → visitTop t ways σ k ≡ visitMarked t ways (visitTop t ways) (σ .mark k) σ k

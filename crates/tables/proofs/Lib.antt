@@ -1,0 +1,6 @@
+pub mod SectionLaws
+pub mod NodeLaws
+pub mod JudgeLaws
+pub mod ListLaws
+pub mod NameLaws
+pub mod JudgedLaws

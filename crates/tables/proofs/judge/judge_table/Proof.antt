@@ -1,0 +1,106 @@
+-- `judge_table` is `check`: the first refusal of nodes, sequentials, initial bads and sequential bads.
+-- Assumes nothing.
+use borrow.Author.Needs.{needs}
+use mathlib.Core.Path.{_≡_, sym, ap, _∙_}
+use mathlib.Core.List.{[]}
+use Rattle.rules.specs.Check.{check, checkNodes, checkSequentials, checkBads}
+use Rattle.tables.specs.Refusals.{refusalOf}
+use Rattle.tables.specs.SectionAnswers.{wordsIn}
+use Rattle.tables.specs.Judging.{judgedOf, rowsIn, tableIn}
+use Rattle.tables.proofs.ListLaws.{passed-before}
+use Rattle.tables.proofs.JudgedLaws.{first-1, first-2, first-3, first-4}
+use Rattle.tables.proofs.judge.judge_table.Statement.{statement}
+use Rattle.tables.proofs.judge.judge_table.Tie as tie
+
+judge-nodes-requires : tie.Need-judge-nodes-requires
+judge-nodes-requires c κs = search needs
+
+enum-known-why : tie.Need-enum-known-why
+enum-known-why c = search needs
+
+returns : tie.Need-returns
+unfolding check
+returns c =
+    let at-judge-nodes = c .before .before .before in
+    let start = at-judge-nodes .before .before in
+    first-1 (checkNodes (start .args .names) (tableIn (start .args .words .now) (start .args .sections)) 0 (rowsIn (start .args .words .now) (start .args .sections))) (checkSequentials (tableIn (start .args .words .now) (start .args .sections)) 0 [] (wordsIn (start .args .words .now) 1 (start .args .sections .sequentials))) (checkBads (tableIn (start .args .words .now) (start .args .sections)) 3 0 (wordsIn (start .args .words .now) 1 (start .args .sections .initial))) (checkBads (tableIn (start .args .words .now) (start .args .sections)) 4 0 (wordsIn (start .args .words .now) 1 (start .args .sections .later))) (refusalOf (c .before .why .given .0 .0)) (sym (at-judge-nodes .judge-nodes .ensures) ∙ ap judgedOf (c .before .why .given .1))
+
+enum-told : tie.Need-enum-told
+enum-told c = search needs
+
+judge-sequentials-requires : tie.Need-judge-sequentials-requires
+judge-sequentials-requires c κs =
+    let start = c .before .before .before .before in
+    (start .pre, passed-before (start .args .names) (rowsIn (start .args .words .now) (start .args .sections)) (sym (c .before .before .judge-nodes .ensures) ∙ ap judgedOf (c .enum-told .given .1)))
+
+enum-known-why-2 : tie.Need-enum-known-why-2
+enum-known-why-2 c = search needs
+
+returns-2 : tie.Need-returns-2
+unfolding check
+returns-2 c =
+    let at-judge-sequentials = c .before .before .before in
+    let at-enum-told = at-judge-sequentials .before in
+    let at-judge-nodes = at-enum-told .before .before in
+    let start = at-judge-nodes .before .before in
+    first-2 (checkNodes (start .args .names) (tableIn (start .args .words .now) (start .args .sections)) 0 (rowsIn (start .args .words .now) (start .args .sections))) (checkSequentials (tableIn (start .args .words .now) (start .args .sections)) 0 [] (wordsIn (start .args .words .now) 1 (start .args .sections .sequentials))) (checkBads (tableIn (start .args .words .now) (start .args .sections)) 3 0 (wordsIn (start .args .words .now) 1 (start .args .sections .initial))) (checkBads (tableIn (start .args .words .now) (start .args .sections)) 4 0 (wordsIn (start .args .words .now) 1 (start .args .sections .later))) (refusalOf (c .before .why2 .given .0 .0)) (sym (at-judge-nodes .judge-nodes .ensures) ∙ ap judgedOf (at-enum-told .enum-told .given .1)) (sym (at-judge-sequentials .judge-sequentials .ensures) ∙ ap judgedOf (c .before .why2 .given .1))
+
+enum-told-2 : tie.Need-enum-told-2
+enum-told-2 c = search needs
+
+judge-bads-requires : tie.Need-judge-bads-requires
+judge-bads-requires c κs =
+    let start = c .before .before .before .before .before .before .before .before in
+    (start .pre, start .pre .inside .initial)
+
+enum-known-why-3 : tie.Need-enum-known-why-3
+enum-known-why-3 c = search needs
+
+returns-3 : tie.Need-returns-3
+unfolding check
+returns-3 c =
+    let at-judge-bads = c .before .before .before in
+    let at-enum-told2 = at-judge-bads .before .before in
+    let at-judge-sequentials = at-enum-told2 .before .before in
+    let at-enum-told = at-judge-sequentials .before in
+    let at-judge-nodes = at-enum-told .before .before in
+    let start = at-judge-nodes .before .before in
+    first-3 (checkNodes (start .args .names) (tableIn (start .args .words .now) (start .args .sections)) 0 (rowsIn (start .args .words .now) (start .args .sections))) (checkSequentials (tableIn (start .args .words .now) (start .args .sections)) 0 [] (wordsIn (start .args .words .now) 1 (start .args .sections .sequentials))) (checkBads (tableIn (start .args .words .now) (start .args .sections)) 3 0 (wordsIn (start .args .words .now) 1 (start .args .sections .initial))) (checkBads (tableIn (start .args .words .now) (start .args .sections)) 4 0 (wordsIn (start .args .words .now) 1 (start .args .sections .later))) (refusalOf (c .before .why3 .given .0 .0)) (sym (at-judge-nodes .judge-nodes .ensures) ∙ ap judgedOf (at-enum-told .enum-told .given .1)) (sym (at-judge-sequentials .judge-sequentials .ensures) ∙ ap judgedOf (at-enum-told2 .enum-told2 .given .1)) (sym (at-judge-bads .judge-bads .ensures) ∙ ap judgedOf (c .before .why3 .given .1))
+
+enum-told-3 : tie.Need-enum-told-3
+enum-told-3 c = search needs
+
+judge-bads-requires-2 : tie.Need-judge-bads-requires-2
+judge-bads-requires-2 c κs =
+    let start = c .before .before .before .before .before .before .before .before .before .before .before .before in
+    (start .pre, start .pre .inside .later)
+
+returns-4 : tie.Need-returns-4
+unfolding check
+returns-4 c =
+    let at-judge-bads = c .before .before .before .before in
+    let at-enum-told2 = at-judge-bads .before .before in
+    let at-judge-sequentials = at-enum-told2 .before .before in
+    let at-enum-told = at-judge-sequentials .before in
+    let at-judge-nodes = at-enum-told .before .before in
+    let start = at-judge-nodes .before .before in
+    c .judge-bads2 .ensures ∙ first-4 (checkNodes (start .args .names) (tableIn (start .args .words .now) (start .args .sections)) 0 (rowsIn (start .args .words .now) (start .args .sections))) (checkSequentials (tableIn (start .args .words .now) (start .args .sections)) 0 [] (wordsIn (start .args .words .now) 1 (start .args .sections .sequentials))) (checkBads (tableIn (start .args .words .now) (start .args .sections)) 3 0 (wordsIn (start .args .words .now) 1 (start .args .sections .initial))) (checkBads (tableIn (start .args .words .now) (start .args .sections)) 4 0 (wordsIn (start .args .words .now) 1 (start .args .sections .later))) (sym (at-judge-nodes .judge-nodes .ensures) ∙ ap judgedOf (at-enum-told .enum-told .given .1)) (sym (at-judge-sequentials .judge-sequentials .ensures) ∙ ap judgedOf (at-enum-told2 .enum-told2 .given .1)) (sym (at-judge-bads .judge-bads .ensures) ∙ ap judgedOf (c .before .before .enum-told3 .given .1))
+
+pub judge-table-spec : {M : Type 1} → statement M
+judge-table-spec =
+    tie.close
+    (tie.spec
+    judge-nodes-requires
+    enum-known-why
+    returns
+    enum-told
+    judge-sequentials-requires
+    enum-known-why-2
+    returns-2
+    enum-told-2
+    judge-bads-requires
+    enum-known-why-3
+    returns-3
+    enum-told-3
+    judge-bads-requires-2
+    returns-4)

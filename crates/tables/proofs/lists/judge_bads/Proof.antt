@@ -1,0 +1,85 @@
+-- `judge_bads` judges entry after entry: what is left to judge, from the place on, is what there was to judge.
+-- Assumes nothing.
+use borrow.Author.Needs.{needs}
+use Prim.Native.Nat.{ℕ, _-_, _≤_}
+use mathlib.Core.Path.{_≡_, refl, sym, ap, _∙_}
+use native.Mathlib.Omega.{arith}
+use borrow.Author.Tests.{not-true, not-false}
+use lib.ListN.{drop}
+use Rattle.rules.specs.Lists.{allTrue}
+use Rattle.rules.specs.Check.{badEntry, checkBads}
+use Rattle.tables.specs.SectionAnswers.{wordsIn}
+use Rattle.tables.specs.Judging.{tableIn}
+use Rattle.tables.proofs.ListLaws.{list-count, list-entry, list-inside, bads-pass, bads-stop, bads-end}
+use Rattle.tables.proofs.lists.judge_bads.Statement.{statement}
+use Rattle.tables.proofs.lists.judge_bads.Tie as tie
+
+abbrev Inv-loop : tie.InvT-loop
+Inv-loop words sections part at section start place₀ place = (place ≤ part .count) × (checkBads (tableIn words sections) section place (drop place (wordsIn words 1 part)) ≡ checkBads (tableIn words sections) section 0 (wordsIn words 1 part))
+
+abbrev μ-loop : tie.MeasureT-loop
+μ-loop words sections part at section start place₀ place = part .count - place
+
+loop-holds : tie.Need-loop-holds Inv-loop μ-loop
+loop-holds c = (omega arith, refl)
+
+add-is-bad : tie.Need-add-is-bad Inv-loop μ-loop
+add-is-bad c =
+    let start = c .before .before .before .before in
+    omega (arith, list-inside (start .args .words .now) (start .args .at) (start .args .part) (start .pre .1) (c .before .before .loop .place) (c .if1 .taken))
+
+mul-is-bad : tie.Need-mul-is-bad Inv-loop μ-loop
+mul-is-bad c = search needs
+
+shared-slice-read-is-bad : tie.Need-shared-slice-read-is-bad Inv-loop μ-loop
+shared-slice-read-is-bad c =
+    let at-loop = c .before .before .before in
+    let start = at-loop .before .before in
+    list-inside (start .args .words .now) (start .args .at) (start .args .part) (start .pre .1) (at-loop .loop .place) (c .before .if1 .taken)
+
+is-bad-requires : tie.Need-is-bad-requires Inv-loop μ-loop
+is-bad-requires c κs =
+    let start = c .before .before .before .before .before in
+    start .pre .0
+
+returns : tie.Need-returns Inv-loop μ-loop
+returns c =
+    let at-if1 = c .before .before .before in
+    let at-loop = at-if1 .before .before in
+    let start = at-loop .before .before in
+    let all = list-count (start .args .words .now) (start .args .at) (start .args .part) (start .pre .1) in bads-stop (tableIn (start .args .words .now) (start .args .sections)) (start .args .section) (wordsIn (start .args .words .now) 1 (start .args .part)) (at-loop .loop .place) (omega (arith, at-if1 .if1 .taken)) (ap (λ (e : ℕ). allTrue (badEntry (tableIn (start .args .words .now) (start .args .sections)) e)) (list-entry (start .args .words .now) (start .args .at) (start .args .part) (start .pre .1) (at-loop .loop .place) (at-if1 .if1 .taken)) ∙ sym (c .before .is-bad .ensures) ∙ not-true _ (c .if2 .taken)) ∙ at-loop .loop .inv .1
+
+add-place : tie.Need-add-place Inv-loop μ-loop
+add-place c = search needs
+
+loop-less : tie.Need-loop-less Inv-loop μ-loop
+loop-less c = search needs
+
+loop-again : tie.Need-loop-again Inv-loop μ-loop
+loop-again c =
+    let at-if1 = c .before .before .before in
+    let at-loop = at-if1 .before .before in
+    let start = at-loop .before .before in
+    let all = list-count (start .args .words .now) (start .args .at) (start .args .part) (start .pre .1) in (omega (arith, at-if1 .if1 .taken), bads-pass (tableIn (start .args .words .now) (start .args .sections)) (start .args .section) (wordsIn (start .args .words .now) 1 (start .args .part)) (at-loop .loop .place) (omega (arith, at-if1 .if1 .taken)) (ap (λ (e : ℕ). allTrue (badEntry (tableIn (start .args .words .now) (start .args .sections)) e)) (list-entry (start .args .words .now) (start .args .at) (start .args .part) (start .pre .1) (at-loop .loop .place) (at-if1 .if1 .taken)) ∙ sym (c .before .is-bad .ensures) ∙ not-false _ (c .if2 .left)) ∙ at-loop .loop .inv .1)
+
+returns-2 : tie.Need-returns-2 Inv-loop μ-loop
+returns-2 c =
+    let start = c .before .before .before .before in
+    let all = list-count (start .args .words .now) (start .args .at) (start .args .part) (start .pre .1) in sym (bads-end (tableIn (start .args .words .now) (start .args .sections)) (start .args .section) (wordsIn (start .args .words .now) 1 (start .args .part)) (c .before .before .loop .place) (omega (arith, c .if1 .left))) ∙ c .before .before .loop .inv .1
+
+pub judge-bads-spec : {M : Type 1} → statement M
+judge-bads-spec =
+    tie.close
+    (tie.spec
+    Inv-loop
+    μ-loop
+    loop-holds
+    add-is-bad
+    mul-is-bad
+    shared-slice-read-is-bad
+    is-bad-requires
+    returns
+    add-place
+    loop-less
+    loop-again
+    returns-2)

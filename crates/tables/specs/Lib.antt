@@ -1,0 +1,5 @@
+pub mod Refusals
+pub mod SectionAnswers
+pub mod NodeAnswers
+pub mod Judging
+pub mod NameAnswers

@@ -1,0 +1,116 @@
+// Sections 1 to 6 of the words of a call, each after its count.
+use crate::refusal::Refusal;
+ghost use mathlib.Core.Path.{_≡_};
+ghost use Prim.Native.Nat.{_≤_};
+ghost use lib.ListN.{drop};
+ghost use Rattle.rules.specs.Limits.{house};
+ghost use Rattle.rules.specs.Sections.{cutSection, cut};
+ghost use Rattle.tables.specs.SectionAnswers.{foundOf, cutOf, Lies, Inside};
+ghost use Rattle.tables.specs.declared.sections.Found.{Found};
+ghost use Rattle.tables.specs.declared.sections.Part.{Part};
+ghost use Rattle.tables.specs.declared.sections.Cut.{Cut};
+ghost use Rattle.tables.specs.declared.sections.Sections.{Sections};
+
+const NODES: u64 = 4096;
+
+const ENTRIES: u64 = 1024;
+
+const INPUTS: u64 = 4096;
+
+const REPLIES: u64 = 16384;
+
+// The words of a node.
+const ROW: usize = 6;
+
+// A section: how many it counts, and where its words start and end.
+pub struct Part {
+    pub count: usize,
+    pub start: usize,
+    pub end: usize,
+}
+
+pub struct Sections {
+    pub nodes: Part,
+    pub sequentials: Part,
+    pub initial: Part,
+    pub later: Part,
+    pub inputs: Part,
+    pub replies: Part,
+}
+
+pub enum Cut {
+    Whole(Sections),
+    Refused(Refusal),
+}
+
+pub enum Found {
+    Section(Part),
+    Refused(Refusal),
+}
+
+// The section whose count stands at a place, with `width` words for each that is counted.
+fn section_at(words: &[u64], at: usize, section: u64, limit: u64, width: usize) -> Found
+    requires { ⌜ (limit ≤ 16384) × (width ≤ 6) ⌝ }
+    ensures { λ r. ⌜ foundOf (now (words .entry)) width r ≡ cutSection section limit width (drop at (now (words .entry))) ⌝ }
+    ensures { λ r. ⌜ ((p : Part) → r ≡ Found.Section p → Lies (now (words .entry)) at width p) ⌝ }
+{
+    if words.len() <= at {
+        return Found::Refused(Refusal::Short(section));
+    }
+    let counted = words[at];
+    if limit < counted {
+        return Found::Refused(Refusal::OverLimit(section));
+    }
+    let count = counted as usize;
+    let start = at + 1;
+    if words.len() - start < width * count {
+        return Found::Refused(Refusal::Short(section));
+    }
+    Found::Section(Part {
+        count,
+        start,
+        end: start + width * count,
+    })
+}
+
+// The six sections, with nothing left over after them.
+pub fn cut_sections(words: &[u64]) -> Cut
+    ensures { λ r. ⌜ cutOf (now (words .entry)) r ≡ cut house (now (words .entry)) ⌝ }
+    ensures { λ r. ⌜ ((s : Sections) → r ≡ Cut.Whole s → Inside (now (words .entry)) s) ⌝ }
+{
+    let nodes = match section_at(words, 0, 1, NODES, ROW) {
+        Found::Section(part) => part,
+        Found::Refused(why) => return Cut::Refused(why),
+    };
+    let sequentials = match section_at(words, nodes.end, 2, ENTRIES, 1) {
+        Found::Section(part) => part,
+        Found::Refused(why) => return Cut::Refused(why),
+    };
+    let initial = match section_at(words, sequentials.end, 3, ENTRIES, 1) {
+        Found::Section(part) => part,
+        Found::Refused(why) => return Cut::Refused(why),
+    };
+    let later = match section_at(words, initial.end, 4, ENTRIES, 1) {
+        Found::Section(part) => part,
+        Found::Refused(why) => return Cut::Refused(why),
+    };
+    let inputs = match section_at(words, later.end, 5, INPUTS, 1) {
+        Found::Section(part) => part,
+        Found::Refused(why) => return Cut::Refused(why),
+    };
+    let replies = match section_at(words, inputs.end, 6, REPLIES, 1) {
+        Found::Section(part) => part,
+        Found::Refused(why) => return Cut::Refused(why),
+    };
+    if replies.end < words.len() {
+        return Cut::Refused(Refusal::Short(6));
+    }
+    Cut::Whole(Sections {
+        nodes,
+        sequentials,
+        initial,
+        later,
+        inputs,
+        replies,
+    })
+}
