@@ -15,7 +15,12 @@ use Rattle.tables.proofs.judge.judge.Tie as tie
 returns : tie.Need-returns
 returns c =
     let start = c .before .before .before in
-    mode-refused (start .args .mode) (start .args .words .now) (start .args .names .now) (start .args .result-room) (start .args .scratch-room) (c .if1 .taken)
+    let mode = start .args .mode in
+    let ws = start .args .words .now in
+    let bytes = start .args .names .now in
+    let result-room = start .args .result-room in
+    let scratch-room = start .args .scratch-room in
+    mode-refused mode ws bytes result-room scratch-room (c .if1 .taken)
 
 cut-sections-requires : tie.Need-cut-sections-requires
 cut-sections-requires c κs = search needs
@@ -31,7 +36,12 @@ returns-2 c =
     let at-cut-sections = c .before .before .before in
     let at-if1 = at-cut-sections .before in
     let start = at-if1 .before .before .before in
-    cut-refused (start .args .mode) (start .args .words .now) (start .args .names .now) (start .args .result-room) (start .args .scratch-room) (at-if1 .if1 .left) (refusalOf (c .before .why .given .0 .0)) (sym (at-cut-sections .cut-sections .ensures .0) ∙ ap (cutOf (start .args .words .now)) (c .before .why .given .1))
+    let mode = start .args .mode in
+    let ws = start .args .words .now in
+    let bytes = start .args .names .now in
+    let result-room = start .args .result-room in
+    let scratch-room = start .args .scratch-room in
+    cut-refused mode ws bytes result-room scratch-room (at-if1 .if1 .left) (refusalOf (c .before .why .given .0 .0)) (sym (at-cut-sections .cut-sections .ensures .0) ∙ ap (cutOf ws) (c .before .why .given .1))
 
 cut-names-requires : tie.Need-cut-names-requires
 cut-names-requires c κs = search needs
@@ -49,14 +59,26 @@ returns-3 c =
     let at-cut-sections = at-sections .before .before in
     let at-if1 = at-cut-sections .before in
     let start = at-if1 .before .before .before in
-    names-refused (start .args .mode) (start .args .words .now) (start .args .names .now) (start .args .result-room) (start .args .scratch-room) (at-if1 .if1 .left) (sectionsIn (start .args .words .now) (at-sections .sections .given .0 .0)) (sym (at-cut-sections .cut-sections .ensures .0) ∙ ap (cutOf (start .args .words .now)) (at-sections .sections .given .1)) (refusalOf (c .before .why2 .given .0 .0)) (count-refused (start .args .names .now) (refusalOf (c .before .why2 .given .0 .0)) (sym (at-cut-names .cut-names .ensures) ∙ ap countOf (c .before .why2 .given .1)))
+    let mode = start .args .mode in
+    let ws = start .args .words .now in
+    let bytes = start .args .names .now in
+    let result-room = start .args .result-room in
+    let scratch-room = start .args .scratch-room in
+    let places = at-sections .sections .given .0 .0 in
+    let s = sectionsIn ws places in
+    let is-cut = sym (at-cut-sections .cut-sections .ensures .0) ∙ ap (cutOf ws) (at-sections .sections .given .1) in
+    names-refused mode ws bytes result-room scratch-room (at-if1 .if1 .left) s is-cut (refusalOf (c .before .why2 .given .0 .0))
+    (count-refused bytes (refusalOf (c .before .why2 .given .0 .0)) (sym (at-cut-names .cut-names .ensures) ∙ ap countOf (c .before .why2 .given .1)))
 
 room-needed-requires : tie.Need-room-needed-requires
 room-needed-requires c κs =
     let at-sections = c .before .before .before .before .before in
     let at-cut-sections = at-sections .before .before in
     let start = at-cut-sections .before .before .before .before in
-    (record { whole = (sym (at-cut-sections .cut-sections .ensures .0) ∙ ap (cutOf (start .args .words .now)) (at-sections .sections .given .1)); inside = (at-cut-sections .cut-sections .ensures .1 (at-sections .sections .given .0 .0) (at-sections .sections .given .1)) })
+    let places = at-sections .sections .given .0 .0 in
+    let ws = start .args .words .now in
+    let is-cut = sym (at-cut-sections .cut-sections .ensures .0) ∙ ap (cutOf ws) (at-sections .sections .given .1) in
+    record { whole = is-cut; inside = at-cut-sections .cut-sections .ensures .1 places (at-sections .sections .given .1) }
 
 returns-4 : tie.Need-returns-4
 returns-4 c =
@@ -66,7 +88,18 @@ returns-4 c =
     let at-cut-sections = at-sections .before .before in
     let at-if1 = at-cut-sections .before in
     let start = at-if1 .before .before .before in
-    let (names, n, l) = count-done (start .args .names .now) (at-count .count .given .0 .0) (sym (at-cut-names .cut-names .ensures) ∙ ap countOf (at-count .count .given .1)) in result-refused (start .args .mode) (start .args .words .now) (start .args .names .now) (start .args .result-room) (start .args .scratch-room) (at-if1 .if1 .left) (sectionsIn (start .args .words .now) (at-sections .sections .given .0 .0)) (sym (at-cut-sections .cut-sections .ensures .0) ∙ ap (cutOf (start .args .words .now)) (at-sections .sections .given .1)) names n (subst (λ (k : ℕ). (start .args .result-room) < k) (c .before .room-needed .ensures) (c .if2 .taken))
+    let mode = start .args .mode in
+    let ws = start .args .words .now in
+    let bytes = start .args .names .now in
+    let result-room = start .args .result-room in
+    let scratch-room = start .args .scratch-room in
+    let places = at-sections .sections .given .0 .0 in
+    let s = sectionsIn ws places in
+    let is-cut = sym (at-cut-sections .cut-sections .ensures .0) ∙ ap (cutOf ws) (at-sections .sections .given .1) in
+    let counted = count-done bytes (at-count .count .given .0 .0) (sym (at-cut-names .cut-names .ensures) ∙ ap countOf (at-count .count .given .1)) in
+    let names = counted .0 in
+    let has-names = counted .1 in
+    result-refused mode ws bytes result-room scratch-room (at-if1 .if1 .left) s is-cut names has-names (subst (λ (k : ℕ). result-room < k) (c .before .room-needed .ensures) (c .if2 .taken))
 
 returns-5 : tie.Need-returns-5
 returns-5 c =
@@ -76,14 +109,30 @@ returns-5 c =
     let at-cut-sections = at-sections .before .before in
     let at-if1 = at-cut-sections .before in
     let start = at-if1 .before .before .before in
-    let (names, n, l) = count-done (start .args .names .now) (at-count .count .given .0 .0) (sym (at-cut-names .cut-names .ensures) ∙ ap countOf (at-count .count .given .1)) in scratch-refused (start .args .mode) (start .args .words .now) (start .args .names .now) (start .args .result-room) (start .args .scratch-room) (at-if1 .if1 .left) (sectionsIn (start .args .words .now) (at-sections .sections .given .0 .0)) (sym (at-cut-sections .cut-sections .ensures .0) ∙ ap (cutOf (start .args .words .now)) (at-sections .sections .given .1)) names n (subst (λ (k : ℕ). k ≤ (start .args .result-room)) (c .before .before .room-needed .ensures) (c .before .if2 .left)) (subst (λ (k : ℕ). (start .args .scratch-room) < k) (c .before .before .room-needed .ensures) (c .if3 .taken))
+    let mode = start .args .mode in
+    let ws = start .args .words .now in
+    let bytes = start .args .names .now in
+    let result-room = start .args .result-room in
+    let scratch-room = start .args .scratch-room in
+    let places = at-sections .sections .given .0 .0 in
+    let s = sectionsIn ws places in
+    let is-cut = sym (at-cut-sections .cut-sections .ensures .0) ∙ ap (cutOf ws) (at-sections .sections .given .1) in
+    let counted = count-done bytes (at-count .count .given .0 .0) (sym (at-cut-names .cut-names .ensures) ∙ ap countOf (at-count .count .given .1)) in
+    let names = counted .0 in
+    let has-names = counted .1 in
+    let result-fits = subst (λ (k : ℕ). k ≤ result-room) (c .before .before .room-needed .ensures) (c .before .if2 .left) in
+    scratch-refused mode ws bytes result-room scratch-room (at-if1 .if1 .left) s is-cut names has-names result-fits
+    (subst (λ (k : ℕ). scratch-room < k) (c .before .before .room-needed .ensures) (c .if3 .taken))
 
 judge-table-requires : tie.Need-judge-table-requires
 judge-table-requires c κs =
     let at-sections = c .before .before .before .before .before .before .before .before in
     let at-cut-sections = at-sections .before .before in
     let start = at-cut-sections .before .before .before .before in
-    (record { whole = (sym (at-cut-sections .cut-sections .ensures .0) ∙ ap (cutOf (start .args .words .now)) (at-sections .sections .given .1)); inside = (at-cut-sections .cut-sections .ensures .1 (at-sections .sections .given .0 .0) (at-sections .sections .given .1)) })
+    let places = at-sections .sections .given .0 .0 in
+    let ws = start .args .words .now in
+    let is-cut = sym (at-cut-sections .cut-sections .ensures .0) ∙ ap (cutOf ws) (at-sections .sections .given .1) in
+    record { whole = is-cut; inside = at-cut-sections .cut-sections .ensures .1 places (at-sections .sections .given .1) }
 
 enum-told : tie.Need-enum-told
 enum-told c = search needs
@@ -102,7 +151,22 @@ returns-6 c =
     let at-cut-sections = at-sections .before .before in
     let at-if1 = at-cut-sections .before in
     let start = at-if1 .before .before .before in
-    let (names, n, l) = count-done (start .args .names .now) (at-count .count .given .0 .0) (sym (at-cut-names .cut-names .ensures) ∙ ap countOf (at-count .count .given .1)) in ap (λ (k : ℕ). done (sectionsIn (start .args .words .now) (at-sections .sections .given .0 .0), k)) (sym l) ∙ accepted (start .args .mode) (start .args .words .now) (start .args .names .now) (start .args .result-room) (start .args .scratch-room) (at-if1 .if1 .left) (sectionsIn (start .args .words .now) (at-sections .sections .given .0 .0)) (sym (at-cut-sections .cut-sections .ensures .0) ∙ ap (cutOf (start .args .words .now)) (at-sections .sections .given .1)) names n (subst (λ (k : ℕ). k ≤ (start .args .result-room)) (at-room-needed .room-needed .ensures) (at-if2 .if2 .left)) (subst (λ (k : ℕ). k ≤ (start .args .scratch-room)) (at-room-needed .room-needed .ensures) (at-if3 .if3 .left)) (check-in (start .args .words .now) (at-sections .sections .given .0 .0) names _ l ∙ sym (c .before .before .judge-table .ensures) ∙ ap judgedOf (c .enum-told .given .1))
+    let mode = start .args .mode in
+    let ws = start .args .words .now in
+    let bytes = start .args .names .now in
+    let result-room = start .args .result-room in
+    let scratch-room = start .args .scratch-room in
+    let places = at-sections .sections .given .0 .0 in
+    let s = sectionsIn ws places in
+    let is-cut = sym (at-cut-sections .cut-sections .ensures .0) ∙ ap (cutOf ws) (at-sections .sections .given .1) in
+    let counted = count-done bytes (at-count .count .given .0 .0) (sym (at-cut-names .cut-names .ensures) ∙ ap countOf (at-count .count .given .1)) in
+    let names = counted .0 in
+    let has-names = counted .1 in
+    let result-fits = subst (λ (k : ℕ). k ≤ result-room) (at-room-needed .room-needed .ensures) (at-if2 .if2 .left) in
+    let scratch-fits = subst (λ (k : ℕ). k ≤ scratch-room) (at-room-needed .room-needed .ensures) (at-if3 .if3 .left) in
+    let table = check-in ws places names (at-count .count .given .0 .0) (counted .2) ∙ sym (c .before .before .judge-table .ensures) in
+    ap (λ (k : ℕ). done (s, k)) (sym (counted .2))
+    ∙ accepted mode ws bytes result-room scratch-room (at-if1 .if1 .left) s is-cut names has-names result-fits scratch-fits (table ∙ ap judgedOf (c .enum-told .given .1))
 
 returns-7 : tie.Need-returns-7
 returns-7 c =
@@ -116,7 +180,22 @@ returns-7 c =
     let at-cut-sections = at-sections .before .before in
     let at-if1 = at-cut-sections .before in
     let start = at-if1 .before .before .before in
-    let (names, n, l) = count-done (start .args .names .now) (at-count .count .given .0 .0) (sym (at-cut-names .cut-names .ensures) ∙ ap countOf (at-count .count .given .1)) in table-refused (start .args .mode) (start .args .words .now) (start .args .names .now) (start .args .result-room) (start .args .scratch-room) (at-if1 .if1 .left) (sectionsIn (start .args .words .now) (at-sections .sections .given .0 .0)) (sym (at-cut-sections .cut-sections .ensures .0) ∙ ap (cutOf (start .args .words .now)) (at-sections .sections .given .1)) names n (subst (λ (k : ℕ). k ≤ (start .args .result-room)) (at-room-needed .room-needed .ensures) (at-if2 .if2 .left)) (subst (λ (k : ℕ). k ≤ (start .args .scratch-room)) (at-room-needed .room-needed .ensures) (at-if3 .if3 .left)) (refusalOf (c .before .why3 .given .0 .0)) (check-in (start .args .words .now) (at-sections .sections .given .0 .0) names _ l ∙ sym (at-judge-table .judge-table .ensures) ∙ ap judgedOf (c .before .why3 .given .1))
+    let mode = start .args .mode in
+    let ws = start .args .words .now in
+    let bytes = start .args .names .now in
+    let result-room = start .args .result-room in
+    let scratch-room = start .args .scratch-room in
+    let places = at-sections .sections .given .0 .0 in
+    let s = sectionsIn ws places in
+    let is-cut = sym (at-cut-sections .cut-sections .ensures .0) ∙ ap (cutOf ws) (at-sections .sections .given .1) in
+    let counted = count-done bytes (at-count .count .given .0 .0) (sym (at-cut-names .cut-names .ensures) ∙ ap countOf (at-count .count .given .1)) in
+    let names = counted .0 in
+    let has-names = counted .1 in
+    let result-fits = subst (λ (k : ℕ). k ≤ result-room) (at-room-needed .room-needed .ensures) (at-if2 .if2 .left) in
+    let scratch-fits = subst (λ (k : ℕ). k ≤ scratch-room) (at-room-needed .room-needed .ensures) (at-if3 .if3 .left) in
+    let table = check-in ws places names (at-count .count .given .0 .0) (counted .2) ∙ sym (at-judge-table .judge-table .ensures) in
+    table-refused mode ws bytes result-room scratch-room (at-if1 .if1 .left) s is-cut names has-names result-fits scratch-fits
+    (refusalOf (c .before .why3 .given .0 .0)) (table ∙ ap judgedOf (c .before .why3 .given .1))
 
 pub judge-spec : {M : Type 1} → statement M
 judge-spec =

@@ -23,7 +23,14 @@ unfolding check
 returns c =
     let at-judge-nodes = c .before .before .before in
     let start = at-judge-nodes .before .before in
-    first-1 (checkNodes (start .args .names) (tableIn (start .args .words .now) (start .args .sections)) 0 (rowsIn (start .args .words .now) (start .args .sections))) (checkSequentials (tableIn (start .args .words .now) (start .args .sections)) 0 [] (wordsIn (start .args .words .now) 1 (start .args .sections .sequentials))) (checkBads (tableIn (start .args .words .now) (start .args .sections)) 3 0 (wordsIn (start .args .words .now) 1 (start .args .sections .initial))) (checkBads (tableIn (start .args .words .now) (start .args .sections)) 4 0 (wordsIn (start .args .words .now) 1 (start .args .sections .later))) (refusalOf (c .before .why .given .0 .0)) (sym (at-judge-nodes .judge-nodes .ensures) ∙ ap judgedOf (c .before .why .given .1))
+    let ws = start .args .words .now in
+    let s = start .args .sections in
+    let t = tableIn ws s in
+    let nodes = checkNodes (start .args .names) t 0 (rowsIn ws s) in
+    let sequentials = checkSequentials t 0 [] (wordsIn ws 1 (s .sequentials)) in
+    let initial = checkBads t 3 0 (wordsIn ws 1 (s .initial)) in
+    let later = checkBads t 4 0 (wordsIn ws 1 (s .later)) in
+    first-1 nodes sequentials initial later (refusalOf (c .before .why .given .0 .0)) (sym (at-judge-nodes .judge-nodes .ensures) ∙ ap judgedOf (c .before .why .given .1))
 
 enum-told : tie.Need-enum-told
 enum-told c = search needs
@@ -31,7 +38,10 @@ enum-told c = search needs
 judge-sequentials-requires : tie.Need-judge-sequentials-requires
 judge-sequentials-requires c κs =
     let start = c .before .before .before .before in
-    (start .pre, passed-before (start .args .names) (rowsIn (start .args .words .now) (start .args .sections)) (sym (c .before .before .judge-nodes .ensures) ∙ ap judgedOf (c .enum-told .given .1)))
+    let ws = start .args .words .now in
+    let s = start .args .sections in
+    let nodes-pass = sym (c .before .before .judge-nodes .ensures) ∙ ap judgedOf (c .enum-told .given .1) in
+    (start .pre, passed-before (start .args .names) (rowsIn ws s) nodes-pass)
 
 enum-known-why-2 : tie.Need-enum-known-why-2
 enum-known-why-2 c = search needs
@@ -43,7 +53,15 @@ returns-2 c =
     let at-enum-told = at-judge-sequentials .before in
     let at-judge-nodes = at-enum-told .before .before in
     let start = at-judge-nodes .before .before in
-    first-2 (checkNodes (start .args .names) (tableIn (start .args .words .now) (start .args .sections)) 0 (rowsIn (start .args .words .now) (start .args .sections))) (checkSequentials (tableIn (start .args .words .now) (start .args .sections)) 0 [] (wordsIn (start .args .words .now) 1 (start .args .sections .sequentials))) (checkBads (tableIn (start .args .words .now) (start .args .sections)) 3 0 (wordsIn (start .args .words .now) 1 (start .args .sections .initial))) (checkBads (tableIn (start .args .words .now) (start .args .sections)) 4 0 (wordsIn (start .args .words .now) 1 (start .args .sections .later))) (refusalOf (c .before .why2 .given .0 .0)) (sym (at-judge-nodes .judge-nodes .ensures) ∙ ap judgedOf (at-enum-told .enum-told .given .1)) (sym (at-judge-sequentials .judge-sequentials .ensures) ∙ ap judgedOf (c .before .why2 .given .1))
+    let ws = start .args .words .now in
+    let s = start .args .sections in
+    let t = tableIn ws s in
+    let nodes = checkNodes (start .args .names) t 0 (rowsIn ws s) in
+    let sequentials = checkSequentials t 0 [] (wordsIn ws 1 (s .sequentials)) in
+    let initial = checkBads t 3 0 (wordsIn ws 1 (s .initial)) in
+    let later = checkBads t 4 0 (wordsIn ws 1 (s .later)) in
+    let nodes-pass = sym (at-judge-nodes .judge-nodes .ensures) ∙ ap judgedOf (at-enum-told .enum-told .given .1) in
+    first-2 nodes sequentials initial later (refusalOf (c .before .why2 .given .0 .0)) nodes-pass (sym (at-judge-sequentials .judge-sequentials .ensures) ∙ ap judgedOf (c .before .why2 .given .1))
 
 enum-told-2 : tie.Need-enum-told-2
 enum-told-2 c = search needs
@@ -65,7 +83,16 @@ returns-3 c =
     let at-enum-told = at-judge-sequentials .before in
     let at-judge-nodes = at-enum-told .before .before in
     let start = at-judge-nodes .before .before in
-    first-3 (checkNodes (start .args .names) (tableIn (start .args .words .now) (start .args .sections)) 0 (rowsIn (start .args .words .now) (start .args .sections))) (checkSequentials (tableIn (start .args .words .now) (start .args .sections)) 0 [] (wordsIn (start .args .words .now) 1 (start .args .sections .sequentials))) (checkBads (tableIn (start .args .words .now) (start .args .sections)) 3 0 (wordsIn (start .args .words .now) 1 (start .args .sections .initial))) (checkBads (tableIn (start .args .words .now) (start .args .sections)) 4 0 (wordsIn (start .args .words .now) 1 (start .args .sections .later))) (refusalOf (c .before .why3 .given .0 .0)) (sym (at-judge-nodes .judge-nodes .ensures) ∙ ap judgedOf (at-enum-told .enum-told .given .1)) (sym (at-judge-sequentials .judge-sequentials .ensures) ∙ ap judgedOf (at-enum-told2 .enum-told2 .given .1)) (sym (at-judge-bads .judge-bads .ensures) ∙ ap judgedOf (c .before .why3 .given .1))
+    let ws = start .args .words .now in
+    let s = start .args .sections in
+    let t = tableIn ws s in
+    let nodes = checkNodes (start .args .names) t 0 (rowsIn ws s) in
+    let sequentials = checkSequentials t 0 [] (wordsIn ws 1 (s .sequentials)) in
+    let initial = checkBads t 3 0 (wordsIn ws 1 (s .initial)) in
+    let later = checkBads t 4 0 (wordsIn ws 1 (s .later)) in
+    let nodes-pass = sym (at-judge-nodes .judge-nodes .ensures) ∙ ap judgedOf (at-enum-told .enum-told .given .1) in
+    let sequentials-pass = sym (at-judge-sequentials .judge-sequentials .ensures) ∙ ap judgedOf (at-enum-told2 .enum-told2 .given .1) in
+    first-3 nodes sequentials initial later (refusalOf (c .before .why3 .given .0 .0)) nodes-pass sequentials-pass (sym (at-judge-bads .judge-bads .ensures) ∙ ap judgedOf (c .before .why3 .given .1))
 
 enum-told-3 : tie.Need-enum-told-3
 enum-told-3 c = search needs
@@ -84,7 +111,17 @@ returns-4 c =
     let at-enum-told = at-judge-sequentials .before in
     let at-judge-nodes = at-enum-told .before .before in
     let start = at-judge-nodes .before .before in
-    c .judge-bads2 .ensures ∙ first-4 (checkNodes (start .args .names) (tableIn (start .args .words .now) (start .args .sections)) 0 (rowsIn (start .args .words .now) (start .args .sections))) (checkSequentials (tableIn (start .args .words .now) (start .args .sections)) 0 [] (wordsIn (start .args .words .now) 1 (start .args .sections .sequentials))) (checkBads (tableIn (start .args .words .now) (start .args .sections)) 3 0 (wordsIn (start .args .words .now) 1 (start .args .sections .initial))) (checkBads (tableIn (start .args .words .now) (start .args .sections)) 4 0 (wordsIn (start .args .words .now) 1 (start .args .sections .later))) (sym (at-judge-nodes .judge-nodes .ensures) ∙ ap judgedOf (at-enum-told .enum-told .given .1)) (sym (at-judge-sequentials .judge-sequentials .ensures) ∙ ap judgedOf (at-enum-told2 .enum-told2 .given .1)) (sym (at-judge-bads .judge-bads .ensures) ∙ ap judgedOf (c .before .before .enum-told3 .given .1))
+    let ws = start .args .words .now in
+    let s = start .args .sections in
+    let t = tableIn ws s in
+    let nodes = checkNodes (start .args .names) t 0 (rowsIn ws s) in
+    let sequentials = checkSequentials t 0 [] (wordsIn ws 1 (s .sequentials)) in
+    let initial = checkBads t 3 0 (wordsIn ws 1 (s .initial)) in
+    let later = checkBads t 4 0 (wordsIn ws 1 (s .later)) in
+    let nodes-pass = sym (at-judge-nodes .judge-nodes .ensures) ∙ ap judgedOf (at-enum-told .enum-told .given .1) in
+    let sequentials-pass = sym (at-judge-sequentials .judge-sequentials .ensures) ∙ ap judgedOf (at-enum-told2 .enum-told2 .given .1) in
+    let initial-pass = sym (at-judge-bads .judge-bads .ensures) ∙ ap judgedOf (c .before .before .enum-told3 .given .1) in
+    c .judge-bads2 .ensures ∙ first-4 nodes sequentials initial later nodes-pass sequentials-pass initial-pass
 
 pub judge-table-spec : {M : Type 1} → statement M
 judge-table-spec =

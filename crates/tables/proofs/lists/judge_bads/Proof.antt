@@ -26,7 +26,12 @@ loop-holds c = (omega arith, refl)
 add-is-bad : tie.Need-add-is-bad Inv-loop μ-loop
 add-is-bad c =
     let start = c .before .before .before .before in
-    omega (arith, list-inside (start .args .words .now) (start .args .at) (start .args .part) (start .pre .1) (c .before .before .loop .place) (c .if1 .taken))
+    let ws = start .args .words .now in
+    let part = start .args .part in
+    let lies = start .pre .1 in
+    let place = c .before .before .loop .place in
+    let inside = list-inside ws (start .args .at) part lies place (c .if1 .taken) in
+    omega (arith, inside)
 
 mul-is-bad : tie.Need-mul-is-bad Inv-loop μ-loop
 mul-is-bad c = search needs
@@ -35,7 +40,12 @@ shared-slice-read-is-bad : tie.Need-shared-slice-read-is-bad Inv-loop μ-loop
 shared-slice-read-is-bad c =
     let at-loop = c .before .before .before in
     let start = at-loop .before .before in
-    list-inside (start .args .words .now) (start .args .at) (start .args .part) (start .pre .1) (at-loop .loop .place) (c .before .if1 .taken)
+    let ws = start .args .words .now in
+    let part = start .args .part in
+    let lies = start .pre .1 in
+    let place = at-loop .loop .place in
+    let inside = list-inside ws (start .args .at) part lies place (c .before .if1 .taken) in
+    inside
 
 is-bad-requires : tie.Need-is-bad-requires Inv-loop μ-loop
 is-bad-requires c κs =
@@ -47,7 +57,17 @@ returns c =
     let at-if1 = c .before .before .before in
     let at-loop = at-if1 .before .before in
     let start = at-loop .before .before in
-    let all = list-count (start .args .words .now) (start .args .at) (start .args .part) (start .pre .1) in bads-stop (tableIn (start .args .words .now) (start .args .sections)) (start .args .section) (wordsIn (start .args .words .now) 1 (start .args .part)) (at-loop .loop .place) (omega (arith, at-if1 .if1 .taken)) (ap (λ (e : ℕ). allTrue (badEntry (tableIn (start .args .words .now) (start .args .sections)) e)) (list-entry (start .args .words .now) (start .args .at) (start .args .part) (start .pre .1) (at-loop .loop .place) (at-if1 .if1 .taken)) ∙ sym (c .before .is-bad .ensures) ∙ not-true _ (c .if2 .taken)) ∙ at-loop .loop .inv .1
+    let ws = start .args .words .now in
+    let t = tableIn ws (start .args .sections) in
+    let part = start .args .part in
+    let bads = wordsIn ws 1 part in
+    let place = at-loop .loop .place in
+    let lies = start .pre .1 in
+    let all = list-count ws (start .args .at) part lies in
+    let entry = list-entry ws (start .args .at) part lies place (at-if1 .if1 .taken) in
+    bads-stop t (start .args .section) bads place (omega (arith, all, at-if1 .if1 .taken))
+    (ap (λ (e : ℕ). allTrue (badEntry t e)) entry ∙ sym (c .before .is-bad .ensures) ∙ not-true _ (c .if2 .taken))
+    ∙ at-loop .loop .inv .1
 
 add-place : tie.Need-add-place Inv-loop μ-loop
 add-place c = search needs
@@ -60,12 +80,31 @@ loop-again c =
     let at-if1 = c .before .before .before in
     let at-loop = at-if1 .before .before in
     let start = at-loop .before .before in
-    let all = list-count (start .args .words .now) (start .args .at) (start .args .part) (start .pre .1) in (omega (arith, at-if1 .if1 .taken), bads-pass (tableIn (start .args .words .now) (start .args .sections)) (start .args .section) (wordsIn (start .args .words .now) 1 (start .args .part)) (at-loop .loop .place) (omega (arith, at-if1 .if1 .taken)) (ap (λ (e : ℕ). allTrue (badEntry (tableIn (start .args .words .now) (start .args .sections)) e)) (list-entry (start .args .words .now) (start .args .at) (start .args .part) (start .pre .1) (at-loop .loop .place) (at-if1 .if1 .taken)) ∙ sym (c .before .is-bad .ensures) ∙ not-false _ (c .if2 .left)) ∙ at-loop .loop .inv .1)
+    let ws = start .args .words .now in
+    let t = tableIn ws (start .args .sections) in
+    let part = start .args .part in
+    let bads = wordsIn ws 1 part in
+    let place = at-loop .loop .place in
+    let lies = start .pre .1 in
+    let all = list-count ws (start .args .at) part lies in
+    let entry = list-entry ws (start .args .at) part lies place (at-if1 .if1 .taken) in (
+      omega (arith, at-if1 .if1 .taken),
+      bads-pass t (start .args .section) bads place (omega (arith, all, at-if1 .if1 .taken))
+          (ap (λ (e : ℕ). allTrue (badEntry t e)) entry ∙ sym (c .before .is-bad .ensures) ∙ not-false _ (c .if2 .left))
+          ∙ at-loop .loop .inv .1,
+    )
 
 returns-2 : tie.Need-returns-2 Inv-loop μ-loop
 returns-2 c =
     let start = c .before .before .before .before in
-    let all = list-count (start .args .words .now) (start .args .at) (start .args .part) (start .pre .1) in sym (bads-end (tableIn (start .args .words .now) (start .args .sections)) (start .args .section) (wordsIn (start .args .words .now) 1 (start .args .part)) (c .before .before .loop .place) (omega (arith, c .if1 .left))) ∙ c .before .before .loop .inv .1
+    let ws = start .args .words .now in
+    let t = tableIn ws (start .args .sections) in
+    let part = start .args .part in
+    let bads = wordsIn ws 1 part in
+    let place = c .before .before .loop .place in
+    let lies = start .pre .1 in
+    let all = list-count ws (start .args .at) part lies in
+    sym (bads-end t (start .args .section) bads place (omega (arith, all, c .if1 .left))) ∙ c .before .before .loop .inv .1
 
 pub judge-bads-spec : {M : Type 1} → statement M
 judge-bads-spec =

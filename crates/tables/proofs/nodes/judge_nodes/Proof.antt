@@ -40,7 +40,16 @@ loop-again c =
     let at-if1 = c .before .before .before in
     let at-loop = at-if1 .before .before in
     let start = at-loop .before .before in
-    let all = rows-count (start .args .words .now) (start .args .sections) (start .pre) in (omega arith, nodes-pass (start .args .names) (tableIn (start .args .words .now) (start .args .sections)) (rowsIn (start .args .words .now) (start .args .sections)) (at-loop .loop .node) (omega (arith, at-if1 .if1 .taken)) (sym (c .before .before .judge-node .ensures) ∙ ap judgedOf (c .enum-told .given .1)) ∙ at-loop .loop .inv .1)
+    let ws = start .args .words .now in
+    let s = start .args .sections in
+    let t = tableIn ws s in
+    let rows = rowsIn ws s in
+    let names = start .args .names in
+    let node = at-loop .loop .node in
+    let all = rows-count ws s (start .pre) in (
+      omega arith,
+      nodes-pass names t rows node (omega (arith, all, at-if1 .if1 .taken)) (sym (c .before .before .judge-node .ensures) ∙ ap judgedOf (c .enum-told .given .1)) ∙ at-loop .loop .inv .1,
+    )
 
 enum-known-why : tie.Need-enum-known-why Inv-loop μ-loop
 enum-known-why c = search needs
@@ -51,12 +60,27 @@ returns c =
     let at-if1 = at-judge-node .before in
     let at-loop = at-if1 .before .before in
     let start = at-loop .before .before in
-    let all = rows-count (start .args .words .now) (start .args .sections) (start .pre) in nodes-stop (start .args .names) (tableIn (start .args .words .now) (start .args .sections)) (rowsIn (start .args .words .now) (start .args .sections)) (at-loop .loop .node) (refusalOf (c .before .why .given .0 .0)) (omega (arith, at-if1 .if1 .taken)) (sym (at-judge-node .judge-node .ensures) ∙ ap judgedOf (c .before .why .given .1)) ∙ at-loop .loop .inv .1
+    let ws = start .args .words .now in
+    let s = start .args .sections in
+    let t = tableIn ws s in
+    let rows = rowsIn ws s in
+    let names = start .args .names in
+    let node = at-loop .loop .node in
+    let all = rows-count ws s (start .pre) in
+    nodes-stop names t rows node (refusalOf (c .before .why .given .0 .0)) (omega (arith, all, at-if1 .if1 .taken)) (sym (at-judge-node .judge-node .ensures) ∙ ap judgedOf (c .before .why .given .1))
+    ∙ at-loop .loop .inv .1
 
 returns-2 : tie.Need-returns-2 Inv-loop μ-loop
 returns-2 c =
     let start = c .before .before .before .before in
-    let all = rows-count (start .args .words .now) (start .args .sections) (start .pre) in sym (nodes-end (start .args .names) (tableIn (start .args .words .now) (start .args .sections)) (rowsIn (start .args .words .now) (start .args .sections)) (c .before .before .loop .node) (omega (arith, c .if1 .left))) ∙ c .before .before .loop .inv .1
+    let ws = start .args .words .now in
+    let s = start .args .sections in
+    let t = tableIn ws s in
+    let rows = rowsIn ws s in
+    let names = start .args .names in
+    let node = c .before .before .loop .node in
+    let all = rows-count ws s (start .pre) in
+    sym (nodes-end names t rows node (omega (arith, all, c .if1 .left))) ∙ c .before .before .loop .inv .1
 
 pub judge-nodes-spec : {M : Type 1} → statement M
 judge-nodes-spec =

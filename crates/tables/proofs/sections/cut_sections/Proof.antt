@@ -1,10 +1,7 @@
 -- `cut_sections` cuts the six sections one after the other: each is `cutSection` of the words after the one before it.
 -- Assumes nothing.
 use borrow.Author.Needs.{needs}
-use Prim.Native.Nat.{ℕ, _≤_}
-use mathlib.Core.Path.{_≡_, refl, sym, ap, _∙_}
-use native.Mathlib.Omega.{arith}
-use lib.ListN.{drop}
+use mathlib.Core.Path.{_≡_, sym, ap, _∙_}
 use Rattle.rules.specs.Sections.{cut, cutSix}
 use Rattle.tables.specs.SectionAnswers.{foundOf}
 use Rattle.tables.proofs.SectionLaws.{not-whole, inside-whole, left-over, none-over}
@@ -25,7 +22,8 @@ unfolding cut cutSix
 returns c =
     let at-section-at = c .before .before .before in
     let start = at-section-at .before .before in
-    (rw ((sym (at-section-at .section-at .ensures .0) ∙ ap (foundOf (start .args .words .now) 6) (c .before .why .given .1))), λ s e. not-whole _ s e)
+    let ws = start .args .words .now in
+    (rw (sym (at-section-at .section-at .ensures .0) ∙ ap (foundOf ws 6) (c .before .why .given .1)), λ s e. not-whole _ s e)
 
 section-at-requires-2 : tie.Need-section-at-requires-2
 section-at-requires-2 c κs = search needs
@@ -43,7 +41,9 @@ returns-2 c =
     let at-part = at-section-at2 .before .before in
     let at-section-at = at-part .before .before in
     let start = at-section-at .before .before in
-    (rw ((sym (at-section-at .section-at .ensures .0) ∙ ap (foundOf (start .args .words .now) 6) (at-part .part .given .1)), (sym (at-section-at2 .section-at2 .ensures .0) ∙ ap (foundOf (start .args .words .now) 1) (c .before .why2 .given .1))), λ s e. not-whole _ s e)
+    let ws = start .args .words .now in
+    let cut-1 = sym (at-section-at .section-at .ensures .0) ∙ ap (foundOf ws 6) (at-part .part .given .1) in
+    (rw (cut-1, sym (at-section-at2 .section-at2 .ensures .0) ∙ ap (foundOf ws 1) (c .before .why2 .given .1)), λ s e. not-whole _ s e)
 
 section-at-requires-3 : tie.Need-section-at-requires-3
 section-at-requires-3 c κs = search needs
@@ -63,7 +63,10 @@ returns-3 c =
     let at-part = at-section-at2 .before .before in
     let at-section-at = at-part .before .before in
     let start = at-section-at .before .before in
-    (rw ((sym (at-section-at .section-at .ensures .0) ∙ ap (foundOf (start .args .words .now) 6) (at-part .part .given .1)), (sym (at-section-at2 .section-at2 .ensures .0) ∙ ap (foundOf (start .args .words .now) 1) (at-part2 .part2 .given .1)), (sym (at-section-at3 .section-at3 .ensures .0) ∙ ap (foundOf (start .args .words .now) 1) (c .before .why3 .given .1))), λ s e. not-whole _ s e)
+    let ws = start .args .words .now in
+    let cut-1 = sym (at-section-at .section-at .ensures .0) ∙ ap (foundOf ws 6) (at-part .part .given .1) in
+    let cut-2 = sym (at-section-at2 .section-at2 .ensures .0) ∙ ap (foundOf ws 1) (at-part2 .part2 .given .1) in
+    (rw (cut-1, cut-2, sym (at-section-at3 .section-at3 .ensures .0) ∙ ap (foundOf ws 1) (c .before .why3 .given .1)), λ s e. not-whole _ s e)
 
 section-at-requires-4 : tie.Need-section-at-requires-4
 section-at-requires-4 c κs = search needs
@@ -85,7 +88,11 @@ returns-4 c =
     let at-part = at-section-at2 .before .before in
     let at-section-at = at-part .before .before in
     let start = at-section-at .before .before in
-    (rw ((sym (at-section-at .section-at .ensures .0) ∙ ap (foundOf (start .args .words .now) 6) (at-part .part .given .1)), (sym (at-section-at2 .section-at2 .ensures .0) ∙ ap (foundOf (start .args .words .now) 1) (at-part2 .part2 .given .1)), (sym (at-section-at3 .section-at3 .ensures .0) ∙ ap (foundOf (start .args .words .now) 1) (at-part3 .part3 .given .1)), (sym (at-section-at4 .section-at4 .ensures .0) ∙ ap (foundOf (start .args .words .now) 1) (c .before .why4 .given .1))), λ s e. not-whole _ s e)
+    let ws = start .args .words .now in
+    let cut-1 = sym (at-section-at .section-at .ensures .0) ∙ ap (foundOf ws 6) (at-part .part .given .1) in
+    let cut-2 = sym (at-section-at2 .section-at2 .ensures .0) ∙ ap (foundOf ws 1) (at-part2 .part2 .given .1) in
+    let cut-3 = sym (at-section-at3 .section-at3 .ensures .0) ∙ ap (foundOf ws 1) (at-part3 .part3 .given .1) in
+    (rw (cut-1, cut-2, cut-3, sym (at-section-at4 .section-at4 .ensures .0) ∙ ap (foundOf ws 1) (c .before .why4 .given .1)), λ s e. not-whole _ s e)
 
 section-at-requires-5 : tie.Need-section-at-requires-5
 section-at-requires-5 c κs = search needs
@@ -109,7 +116,12 @@ returns-5 c =
     let at-part = at-section-at2 .before .before in
     let at-section-at = at-part .before .before in
     let start = at-section-at .before .before in
-    (rw ((sym (at-section-at .section-at .ensures .0) ∙ ap (foundOf (start .args .words .now) 6) (at-part .part .given .1)), (sym (at-section-at2 .section-at2 .ensures .0) ∙ ap (foundOf (start .args .words .now) 1) (at-part2 .part2 .given .1)), (sym (at-section-at3 .section-at3 .ensures .0) ∙ ap (foundOf (start .args .words .now) 1) (at-part3 .part3 .given .1)), (sym (at-section-at4 .section-at4 .ensures .0) ∙ ap (foundOf (start .args .words .now) 1) (at-part4 .part4 .given .1)), (sym (at-section-at5 .section-at5 .ensures .0) ∙ ap (foundOf (start .args .words .now) 1) (c .before .why5 .given .1))), λ s e. not-whole _ s e)
+    let ws = start .args .words .now in
+    let cut-1 = sym (at-section-at .section-at .ensures .0) ∙ ap (foundOf ws 6) (at-part .part .given .1) in
+    let cut-2 = sym (at-section-at2 .section-at2 .ensures .0) ∙ ap (foundOf ws 1) (at-part2 .part2 .given .1) in
+    let cut-3 = sym (at-section-at3 .section-at3 .ensures .0) ∙ ap (foundOf ws 1) (at-part3 .part3 .given .1) in
+    let cut-4 = sym (at-section-at4 .section-at4 .ensures .0) ∙ ap (foundOf ws 1) (at-part4 .part4 .given .1) in
+    (rw (cut-1, cut-2, cut-3, cut-4, sym (at-section-at5 .section-at5 .ensures .0) ∙ ap (foundOf ws 1) (c .before .why5 .given .1)), λ s e. not-whole _ s e)
 
 section-at-requires-6 : tie.Need-section-at-requires-6
 section-at-requires-6 c κs = search needs
@@ -135,7 +147,13 @@ returns-6 c =
     let at-part = at-section-at2 .before .before in
     let at-section-at = at-part .before .before in
     let start = at-section-at .before .before in
-    (rw ((sym (at-section-at .section-at .ensures .0) ∙ ap (foundOf (start .args .words .now) 6) (at-part .part .given .1)), (sym (at-section-at2 .section-at2 .ensures .0) ∙ ap (foundOf (start .args .words .now) 1) (at-part2 .part2 .given .1)), (sym (at-section-at3 .section-at3 .ensures .0) ∙ ap (foundOf (start .args .words .now) 1) (at-part3 .part3 .given .1)), (sym (at-section-at4 .section-at4 .ensures .0) ∙ ap (foundOf (start .args .words .now) 1) (at-part4 .part4 .given .1)), (sym (at-section-at5 .section-at5 .ensures .0) ∙ ap (foundOf (start .args .words .now) 1) (at-part5 .part5 .given .1)), (sym (at-section-at6 .section-at6 .ensures .0) ∙ ap (foundOf (start .args .words .now) 1) (c .before .why6 .given .1))), λ s e. not-whole _ s e)
+    let ws = start .args .words .now in
+    let cut-1 = sym (at-section-at .section-at .ensures .0) ∙ ap (foundOf ws 6) (at-part .part .given .1) in
+    let cut-2 = sym (at-section-at2 .section-at2 .ensures .0) ∙ ap (foundOf ws 1) (at-part2 .part2 .given .1) in
+    let cut-3 = sym (at-section-at3 .section-at3 .ensures .0) ∙ ap (foundOf ws 1) (at-part3 .part3 .given .1) in
+    let cut-4 = sym (at-section-at4 .section-at4 .ensures .0) ∙ ap (foundOf ws 1) (at-part4 .part4 .given .1) in
+    let cut-5 = sym (at-section-at5 .section-at5 .ensures .0) ∙ ap (foundOf ws 1) (at-part5 .part5 .given .1) in
+    (rw (cut-1, cut-2, cut-3, cut-4, cut-5, sym (at-section-at6 .section-at6 .ensures .0) ∙ ap (foundOf ws 1) (c .before .why6 .given .1)), λ s e. not-whole _ s e)
 
 returns-7 : tie.Need-returns-7
 unfolding cut cutSix
@@ -153,7 +171,14 @@ returns-7 c =
     let at-part = at-section-at2 .before .before in
     let at-section-at = at-part .before .before in
     let start = at-section-at .before .before in
-    (rw ((sym (at-section-at .section-at .ensures .0) ∙ ap (foundOf (start .args .words .now) 6) (at-part .part .given .1)), (sym (at-section-at2 .section-at2 .ensures .0) ∙ ap (foundOf (start .args .words .now) 1) (at-part2 .part2 .given .1)), (sym (at-section-at3 .section-at3 .ensures .0) ∙ ap (foundOf (start .args .words .now) 1) (at-part3 .part3 .given .1)), (sym (at-section-at4 .section-at4 .ensures .0) ∙ ap (foundOf (start .args .words .now) 1) (at-part4 .part4 .given .1)), (sym (at-section-at5 .section-at5 .ensures .0) ∙ ap (foundOf (start .args .words .now) 1) (at-part5 .part5 .given .1)), (sym (at-section-at6 .section-at6 .ensures .0) ∙ ap (foundOf (start .args .words .now) 1) (at-part6 .part6 .given .1))) (sym (left-over 6 _ (start .args .words .now) (at-part6 .part6 .given .0 .0 .end) (c .if1 .taken))), λ s e. not-whole _ s e)
+    let ws = start .args .words .now in
+    let cut-1 = sym (at-section-at .section-at .ensures .0) ∙ ap (foundOf ws 6) (at-part .part .given .1) in
+    let cut-2 = sym (at-section-at2 .section-at2 .ensures .0) ∙ ap (foundOf ws 1) (at-part2 .part2 .given .1) in
+    let cut-3 = sym (at-section-at3 .section-at3 .ensures .0) ∙ ap (foundOf ws 1) (at-part3 .part3 .given .1) in
+    let cut-4 = sym (at-section-at4 .section-at4 .ensures .0) ∙ ap (foundOf ws 1) (at-part4 .part4 .given .1) in
+    let cut-5 = sym (at-section-at5 .section-at5 .ensures .0) ∙ ap (foundOf ws 1) (at-part5 .part5 .given .1) in
+    let cut-6 = sym (at-section-at6 .section-at6 .ensures .0) ∙ ap (foundOf ws 1) (at-part6 .part6 .given .1) in
+    (rw (cut-1, cut-2, cut-3, cut-4, cut-5, cut-6) (sym (left-over 6 _ ws (at-part6 .part6 .given .0 .0 .end) (c .if1 .taken))), λ s e. not-whole _ s e)
 
 returns-8 : tie.Need-returns-8
 unfolding cut cutSix
@@ -171,7 +196,23 @@ returns-8 c =
     let at-part = at-section-at2 .before .before in
     let at-section-at = at-part .before .before in
     let start = at-section-at .before .before in
-    (rw ((sym (at-section-at .section-at .ensures .0) ∙ ap (foundOf (start .args .words .now) 6) (at-part .part .given .1)), (sym (at-section-at2 .section-at2 .ensures .0) ∙ ap (foundOf (start .args .words .now) 1) (at-part2 .part2 .given .1)), (sym (at-section-at3 .section-at3 .ensures .0) ∙ ap (foundOf (start .args .words .now) 1) (at-part3 .part3 .given .1)), (sym (at-section-at4 .section-at4 .ensures .0) ∙ ap (foundOf (start .args .words .now) 1) (at-part4 .part4 .given .1)), (sym (at-section-at5 .section-at5 .ensures .0) ∙ ap (foundOf (start .args .words .now) 1) (at-part5 .part5 .given .1)), (sym (at-section-at6 .section-at6 .ensures .0) ∙ ap (foundOf (start .args .words .now) 1) (at-part6 .part6 .given .1))) (sym (none-over 6 _ (start .args .words .now) (at-part6 .part6 .given .0 .0 .end) (c .if1 .left))), λ s e. inside-whole _ _ s e (record { nodes = at-section-at .section-at .ensures .1 _ (at-part .part .given .1); sequentials = at-section-at2 .section-at2 .ensures .1 _ (at-part2 .part2 .given .1); initial = at-section-at3 .section-at3 .ensures .1 _ (at-part3 .part3 .given .1); later = at-section-at4 .section-at4 .ensures .1 _ (at-part4 .part4 .given .1); inputs = at-section-at5 .section-at5 .ensures .1 _ (at-part5 .part5 .given .1); replies = at-section-at6 .section-at6 .ensures .1 _ (at-part6 .part6 .given .1) }))
+    let ws = start .args .words .now in
+    let cut-1 = sym (at-section-at .section-at .ensures .0) ∙ ap (foundOf ws 6) (at-part .part .given .1) in
+    let cut-2 = sym (at-section-at2 .section-at2 .ensures .0) ∙ ap (foundOf ws 1) (at-part2 .part2 .given .1) in
+    let cut-3 = sym (at-section-at3 .section-at3 .ensures .0) ∙ ap (foundOf ws 1) (at-part3 .part3 .given .1) in
+    let cut-4 = sym (at-section-at4 .section-at4 .ensures .0) ∙ ap (foundOf ws 1) (at-part4 .part4 .given .1) in
+    let cut-5 = sym (at-section-at5 .section-at5 .ensures .0) ∙ ap (foundOf ws 1) (at-part5 .part5 .given .1) in
+    let cut-6 = sym (at-section-at6 .section-at6 .ensures .0) ∙ ap (foundOf ws 1) (at-part6 .part6 .given .1) in (
+      rw (cut-1, cut-2, cut-3, cut-4, cut-5, cut-6) (sym (none-over 6 _ ws (at-part6 .part6 .given .0 .0 .end) (c .if1 .left))),
+      λ s e. inside-whole _ _ s e (record {
+        nodes = at-section-at .section-at .ensures .1 _ (at-part .part .given .1);
+        sequentials = at-section-at2 .section-at2 .ensures .1 _ (at-part2 .part2 .given .1);
+        initial = at-section-at3 .section-at3 .ensures .1 _ (at-part3 .part3 .given .1);
+        later = at-section-at4 .section-at4 .ensures .1 _ (at-part4 .part4 .given .1);
+        inputs = at-section-at5 .section-at5 .ensures .1 _ (at-part5 .part5 .given .1);
+        replies = at-section-at6 .section-at6 .ensures .1 _ (at-part6 .part6 .given .1);
+      }),
+    )
 
 pub cut-sections-spec : {M : Type 1} → statement M
 cut-sections-spec =
