@@ -1,0 +1,6 @@
+pub mod Reading
+pub mod Laid
+pub mod Printing
+pub mod Answer
+pub mod Splitting
+pub mod Program

@@ -1,0 +1,182 @@
+// From the numbers of a text to a call: where sections 1 to 6 end in the numbers after the mode, and the names, which follow them as
+// numbers, as bytes in a lent array. What the array holds past the bytes, and after a refusal, is left free.
+ghost use mathlib.Core.Path.{_≡_};
+ghost use mathlib.Core.Bool.{true};
+ghost use Prim.Native.Nat.{_+_, _-_, _<_, _≤_};
+ghost use lib.ListN.{length, take, drop};
+ghost use Rattle.rules.specs.Limits.{house};
+ghost use Rattle.rules.specs.Text.{allBytes};
+ghost use Rattle.text.specs.Splitting.{endOf, Inside, cutAfter, restOf, Judges, cutAll, counted, bytesAfter, namesOf, Lent, bytesIn};
+
+// Where a section ends, or which section is refused.
+pub enum End {
+    At(usize),
+    // Refusal 2, of this section, position 0.
+    Over(u64),
+    // Refusal 1, of this section, position 0.
+    Short(u64),
+}
+
+// The names as bytes, or the refusal.
+pub enum Names {
+    Bytes(usize),
+    // Refusal 2, section 7, position 0.
+    NamesOver,
+    // Refusal 1, section 7, position 0.
+    NamesShort,
+}
+
+// One section from a place on: its count within the limit, then so many words for each that is counted.
+fn section_at(words: &[u64], at: usize, section: u64, limit: u64, width: u64) -> End
+    requires { ⌜ 0 < width ⌝ }
+    ensures { λ r. ⌜ (endOf r (now (words .entry)) ≡ cutAfter section limit width (endOf (End.At at) (now (words .entry)))) × Inside r (now (words .entry)) ⌝ }
+{
+    if at >= words.len() {
+        return End::Short(section);
+    }
+    let count = words[at];
+    if count > limit {
+        return End::Over(section);
+    }
+    let most = (words.len() - at - 1) as u64;
+    if count > most / width {
+        return End::Short(section);
+    }
+    End::At(at + 1 + (width * count) as usize)
+}
+
+// One section after what is cut already.
+fn cut_section(words: &[u64], from: End, section: u64, limit: u64, width: u64) -> End
+    requires { ⌜ 0 < width ⌝ }
+    ensures { λ r. ⌜ (endOf r (now (words .entry)) ≡ cutAfter section limit width (endOf from (now (words .entry)))) × Inside r (now (words .entry)) ⌝ }
+{
+    match from {
+        End::At(at) => section_at(words, at, section, limit, width),
+        End::Over(earlier) => End::Over(earlier),
+        End::Short(earlier) => End::Short(earlier),
+    }
+}
+
+// Where sections 1 to 6 end in the numbers after the mode.
+pub fn sections_end(words: &[u64]) -> End
+    ensures { λ r. ⌜ (endOf r (now (words .entry)) ≡ restOf house (now (words .entry))) × Inside r (now (words .entry)) ⌝ }
+{
+    let nodes = cut_section(words, End::At(0), 1, 4096, 6);
+    let sequentials = cut_section(words, nodes, 2, 1024, 1);
+    let initial = cut_section(words, sequentials, 3, 1024, 1);
+    let later = cut_section(words, initial, 4, 1024, 1);
+    let inputs = cut_section(words, later, 5, 4096, 1);
+    cut_section(words, inputs, 6, 16384, 1)
+}
+
+// Whether the names after their count are whole, and nothing follows them.
+enum Judged {
+    Whole,
+    Over,
+    Short,
+}
+
+// So many names: a length of at most 64 each, then as many byte values.
+fn judge_lengths(values: &[u64], count: u64) -> Judged
+    ensures { λ r. ⌜ Judges r (cutAll house count (now (values .entry))) ⌝ }
+{
+    let mut left = count;
+    let mut at = 0;
+    while left > 0 {
+        if at >= values.len() {
+            return Judged::Short;
+        }
+        let size = values[at];
+        if size > 64 {
+            return Judged::Over;
+        }
+        if size > (values.len() - at - 1) as u64 {
+            return Judged::Short;
+        }
+        at = at + 1 + size as usize;
+        left -= 1;
+    }
+    if at < values.len() {
+        return Judged::Short;
+    }
+    Judged::Whole
+}
+
+// Whether no value is above 255.
+fn all_bytes(values: &[u64]) -> bool
+    ensures { λ r. ⌜ r ≡ allBytes (now (values .entry)) ⌝ }
+{
+    let mut i = 0;
+    while i < values.len() {
+        if values[i] >= 256 {
+            return false;
+        }
+        i += 1;
+    }
+    true
+}
+
+// The names bytes at the front of the buffer: the count in two bytes, low byte first, then the values.
+fn put_names(count: u64, values: &[u64], out: &mut [u8])
+    requires { ⌜ (count ≤ 4096) × (length (now values) + 2 ≤ length (now out)) × (allBytes (now values) ≡ true) ⌝ }
+    ensures { λ _. ⌜ take (length (now (values .entry)) + 2) (now (out .exit)) ≡ counted count (now (values .entry)) ⌝ }
+{
+    out[0] = (count % 256) as u8;
+    out[1] = (count / 256) as u8;
+    let mut i = 0;
+    while i < values.len() {
+        out[i + 2] = values[i] as u8;
+        i += 1;
+    }
+}
+
+// The names after their count.
+fn names_after(count: u64, values: &[u64], out: &mut [u8]) -> Names
+    requires { ⌜ length (now values) + 2 ≤ length (now out) ⌝ }
+    ensures { λ r. ⌜ (namesOf r (now (out .exit)) ≡ bytesAfter house count (now (values .entry))) × Lent r (length (now (out .entry))) ⌝ }
+{
+    if count > 4096 {
+        return Names::NamesOver;
+    }
+    match judge_lengths(values, count) {
+        Judged::Over => Names::NamesOver,
+        Judged::Short => Names::NamesShort,
+        Judged::Whole => {
+            if all_bytes(values) {
+                put_names(count, values, out);
+                return Names::Bytes(values.len() + 2);
+            }
+            Names::NamesShort
+        }
+    }
+}
+
+// The names in numbers: count, then length and byte values each.
+fn names_in(numbers: &[u64], out: &mut [u8]) -> Names
+    requires { ⌜ length (now numbers) < length (now out) ⌝ }
+    ensures { λ r. ⌜ (namesOf r (now (out .exit)) ≡ bytesIn house (now (numbers .entry))) × Lent r (length (now (out .entry))) ⌝ }
+{
+    if numbers.len() == 0 {
+        return Names::NamesShort;
+    }
+    let count = numbers[0];
+    names_after(count, &numbers[1..], out)
+}
+
+// The names that stand in the numbers from one place to another, as bytes at the front of the array.
+pub fn names_bytes(numbers: &[u64; 4096], from: usize, to: usize, out: &mut [u8; 4097]) -> Names
+    ensures { λ r. ⌜ (namesOf r (now (out .exit)) ≡ bytesIn house (take (to - from) (drop from (now (numbers .entry))))) × Lent r 4097 ⌝ }
+{
+    let kept: &[u64] = numbers;
+    let room: &mut [u8] = out;
+    if from >= kept.len() {
+        return Names::NamesShort;
+    }
+    if from >= to {
+        return Names::NamesShort;
+    }
+    if to >= kept.len() {
+        return names_in(&kept[from..], room);
+    }
+    names_in(&kept[from..to], room)
+}
