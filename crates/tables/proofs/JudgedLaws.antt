@@ -1,7 +1,7 @@
 -- Laws for the proofs of judge.rt: the first of four refusals, and a call refused at each stage or judged.
 -- Assumes nothing.
 use Prim.Native.Nat.{ℕ, _+_, _*_, _<_, _≤_}
-use mathlib.Core.Path.{_≡_, refl, sym, ap, ap₂, _∙_}
+use mathlib.Core.Path.{_≡_, refl, sym, ap, ap₂, _∙_, subst}
 use mathlib.Core.Bool.{Bool, true, false}
 use mathlib.Core.Option.{Option, none, some}
 use mathlib.Core.List.{List, [], _∷_}
@@ -23,8 +23,17 @@ use Rattle.tables.specs.SectionAnswers.{sectionsIn, wordsIn}
 use Rattle.tables.specs.NameAnswers.{counted, namesCount}
 use Rattle.tables.specs.Judging.{rowsIn, modelIn, IsCut, judgedCount}
 use Rattle.tables.specs.declared.sections.Sections.{Sections}
+use Rattle.tables.specs.declared.refusal.Refusal as why
+use Rattle.tables.specs.declared.judge.Verdict.{Verdict}
 use Rattle.tables.proofs.JudgeLaws.{rows-count}
 use Rattle.tables.proofs.ListLaws.{list-count, nodes-few}
+
+-- ---- the places of an accepted call
+pub not-accepted : {A : Type 0} (r : why.Refusal) (s : Sections) (k : ℕ) → Verdict.Refused r ≡ Verdict.Accepted s k → A
+not-accepted r s k e = let z : _≡_ {A = ℕ} 0 1 = cc in absurd (omega arith)
+
+pub accepted-cut : (ws : List ℕ) (q s : Sections) (i k : ℕ) → Verdict.Accepted q i ≡ Verdict.Accepted s k → IsCut ws q → IsCut ws s
+accepted-cut ws q s i k e = subst (λ (x : Sections). IsCut ws x) cc
 
 -- ---- the first of four
 module _ (a b c d : Option Refusal) (r : Refusal) where

@@ -9,12 +9,15 @@ use crate::refusal::Refusal;
 use crate::sections::Cut;
 use crate::sections::Sections;
 use crate::sections::cut_sections;
+ghost use Prim.Native.Nat.{ℕ};
 ghost use mathlib.Core.Path.{_≡_};
 ghost use Rattle.rules.specs.Limits.{house};
 ghost use Rattle.rules.specs.Check.{check};
 ghost use Rattle.rules.specs.Call.{needOf};
 ghost use Rattle.tables.specs.SectionAnswers.{sectionsIn};
 ghost use Rattle.tables.specs.Judging.{judgedOf, rowsIn, modelIn, IsCut, verdictOf, judgedCount};
+ghost use Rattle.tables.specs.declared.sections.Sections.{Sections};
+ghost use Rattle.tables.specs.declared.judge.Verdict.{Verdict};
 
 const HIGHEST_MODE: u64 = 7;
 
@@ -63,6 +66,7 @@ pub fn judge(
     scratch_room: usize,
 ) -> Verdict
     ensures { λ r. ⌜ verdictOf (now (words .entry)) r ≡ judgedCount house mode (now (words .entry)) (now (names .entry)) «result_room» «scratch_room» ⌝ }
+    ensures { λ r. ⌜ ((s : Sections) (k : ℕ) → r ≡ Verdict.Accepted s k → IsCut (now (words .entry)) s) ⌝ }
 {
     if HIGHEST_MODE < mode {
         return Verdict::Refused(Refusal::Mode);

@@ -8,7 +8,7 @@ use Rattle.tables.specs.Refusals.{refusalOf}
 use Rattle.tables.specs.SectionAnswers.{cutOf, sectionsIn}
 use Rattle.tables.specs.NameAnswers.{countOf}
 use Rattle.tables.specs.Judging.{judgedOf}
-use Rattle.tables.proofs.JudgedLaws.{mode-refused, cut-refused, names-refused, result-refused, scratch-refused, table-refused, accepted, count-refused, count-done, check-in}
+use Rattle.tables.proofs.JudgedLaws.{mode-refused, cut-refused, names-refused, result-refused, scratch-refused, table-refused, accepted, count-refused, count-done, check-in, not-accepted, accepted-cut}
 use Rattle.tables.proofs.judge.judge.Statement.{statement}
 use Rattle.tables.proofs.judge.judge.Tie as tie
 
@@ -19,8 +19,10 @@ returns c =
     let ws = start .args .words .now in
     let bytes = start .args .names .now in
     let result-room = start .args .result-room in
-    let scratch-room = start .args .scratch-room in
-    mode-refused mode ws bytes result-room scratch-room (c .if1 .taken)
+    let scratch-room = start .args .scratch-room in (
+      mode-refused mode ws bytes result-room scratch-room (c .if1 .taken),
+      λ s k e. not-accepted _ s k e,
+    )
 
 cut-sections-requires : tie.Need-cut-sections-requires
 cut-sections-requires c κs = search needs
@@ -40,8 +42,10 @@ returns-2 c =
     let ws = start .args .words .now in
     let bytes = start .args .names .now in
     let result-room = start .args .result-room in
-    let scratch-room = start .args .scratch-room in
-    cut-refused mode ws bytes result-room scratch-room (at-if1 .if1 .left) (refusalOf (c .before .why .given .0 .0)) (sym (at-cut-sections .cut-sections .ensures .0) ∙ ap (cutOf ws) (c .before .why .given .1))
+    let scratch-room = start .args .scratch-room in (
+      cut-refused mode ws bytes result-room scratch-room (at-if1 .if1 .left) (refusalOf (c .before .why .given .0 .0)) (sym (at-cut-sections .cut-sections .ensures .0) ∙ ap (cutOf ws) (c .before .why .given .1)),
+      λ s k e. not-accepted _ s k e,
+    )
 
 cut-names-requires : tie.Need-cut-names-requires
 cut-names-requires c κs = search needs
@@ -66,9 +70,11 @@ returns-3 c =
     let scratch-room = start .args .scratch-room in
     let places = at-sections .sections .given .0 .0 in
     let s = sectionsIn ws places in
-    let is-cut = sym (at-cut-sections .cut-sections .ensures .0) ∙ ap (cutOf ws) (at-sections .sections .given .1) in
-    names-refused mode ws bytes result-room scratch-room (at-if1 .if1 .left) s is-cut (refusalOf (c .before .why2 .given .0 .0))
-    (count-refused bytes (refusalOf (c .before .why2 .given .0 .0)) (sym (at-cut-names .cut-names .ensures) ∙ ap countOf (c .before .why2 .given .1)))
+    let is-cut = sym (at-cut-sections .cut-sections .ensures .0) ∙ ap (cutOf ws) (at-sections .sections .given .1) in (
+      names-refused mode ws bytes result-room scratch-room (at-if1 .if1 .left) s is-cut (refusalOf (c .before .why2 .given .0 .0))
+          (count-refused bytes (refusalOf (c .before .why2 .given .0 .0)) (sym (at-cut-names .cut-names .ensures) ∙ ap countOf (c .before .why2 .given .1))),
+      λ s k e. not-accepted _ s k e,
+    )
 
 room-needed-requires : tie.Need-room-needed-requires
 room-needed-requires c κs =
@@ -98,8 +104,10 @@ returns-4 c =
     let is-cut = sym (at-cut-sections .cut-sections .ensures .0) ∙ ap (cutOf ws) (at-sections .sections .given .1) in
     let counted = count-done bytes (at-count .count .given .0 .0) (sym (at-cut-names .cut-names .ensures) ∙ ap countOf (at-count .count .given .1)) in
     let names = counted .0 in
-    let has-names = counted .1 in
-    result-refused mode ws bytes result-room scratch-room (at-if1 .if1 .left) s is-cut names has-names (subst (λ (k : ℕ). result-room < k) (c .before .room-needed .ensures) (c .if2 .taken))
+    let has-names = counted .1 in (
+      result-refused mode ws bytes result-room scratch-room (at-if1 .if1 .left) s is-cut names has-names (subst (λ (k : ℕ). result-room < k) (c .before .room-needed .ensures) (c .if2 .taken)),
+      λ s k e. not-accepted _ s k e,
+    )
 
 returns-5 : tie.Need-returns-5
 returns-5 c =
@@ -120,9 +128,11 @@ returns-5 c =
     let counted = count-done bytes (at-count .count .given .0 .0) (sym (at-cut-names .cut-names .ensures) ∙ ap countOf (at-count .count .given .1)) in
     let names = counted .0 in
     let has-names = counted .1 in
-    let result-fits = subst (λ (k : ℕ). k ≤ result-room) (c .before .before .room-needed .ensures) (c .before .if2 .left) in
-    scratch-refused mode ws bytes result-room scratch-room (at-if1 .if1 .left) s is-cut names has-names result-fits
-    (subst (λ (k : ℕ). scratch-room < k) (c .before .before .room-needed .ensures) (c .if3 .taken))
+    let result-fits = subst (λ (k : ℕ). k ≤ result-room) (c .before .before .room-needed .ensures) (c .before .if2 .left) in (
+      scratch-refused mode ws bytes result-room scratch-room (at-if1 .if1 .left) s is-cut names has-names result-fits
+          (subst (λ (k : ℕ). scratch-room < k) (c .before .before .room-needed .ensures) (c .if3 .taken)),
+      λ s k e. not-accepted _ s k e,
+    )
 
 judge-table-requires : tie.Need-judge-table-requires
 judge-table-requires c κs =
@@ -164,9 +174,11 @@ returns-6 c =
     let has-names = counted .1 in
     let result-fits = subst (λ (k : ℕ). k ≤ result-room) (at-room-needed .room-needed .ensures) (at-if2 .if2 .left) in
     let scratch-fits = subst (λ (k : ℕ). k ≤ scratch-room) (at-room-needed .room-needed .ensures) (at-if3 .if3 .left) in
-    let table = check-in ws places names (at-count .count .given .0 .0) (counted .2) ∙ sym (c .before .before .judge-table .ensures) in
-    ap (λ (k : ℕ). done (s, k)) (sym (counted .2))
-    ∙ accepted mode ws bytes result-room scratch-room (at-if1 .if1 .left) s is-cut names has-names result-fits scratch-fits (table ∙ ap judgedOf (c .enum-told .given .1))
+    let table = check-in ws places names (at-count .count .given .0 .0) (counted .2) ∙ sym (c .before .before .judge-table .ensures) in (
+      ap (λ (k : ℕ). done (s, k)) (sym (counted .2))
+          ∙ accepted mode ws bytes result-room scratch-room (at-if1 .if1 .left) s is-cut names has-names result-fits scratch-fits (table ∙ ap judgedOf (c .enum-told .given .1)),
+      λ q k e. accepted-cut ws places q _ k e (record { whole = is-cut; inside = at-cut-sections .cut-sections .ensures .1 places (at-sections .sections .given .1) }),
+    )
 
 returns-7 : tie.Need-returns-7
 returns-7 c =
@@ -193,9 +205,11 @@ returns-7 c =
     let has-names = counted .1 in
     let result-fits = subst (λ (k : ℕ). k ≤ result-room) (at-room-needed .room-needed .ensures) (at-if2 .if2 .left) in
     let scratch-fits = subst (λ (k : ℕ). k ≤ scratch-room) (at-room-needed .room-needed .ensures) (at-if3 .if3 .left) in
-    let table = check-in ws places names (at-count .count .given .0 .0) (counted .2) ∙ sym (at-judge-table .judge-table .ensures) in
-    table-refused mode ws bytes result-room scratch-room (at-if1 .if1 .left) s is-cut names has-names result-fits scratch-fits
-    (refusalOf (c .before .why3 .given .0 .0)) (table ∙ ap judgedOf (c .before .why3 .given .1))
+    let table = check-in ws places names (at-count .count .given .0 .0) (counted .2) ∙ sym (at-judge-table .judge-table .ensures) in (
+      table-refused mode ws bytes result-room scratch-room (at-if1 .if1 .left) s is-cut names has-names result-fits scratch-fits
+          (refusalOf (c .before .why3 .given .0 .0)) (table ∙ ap judgedOf (c .before .why3 .given .1)),
+      λ s k e. not-accepted _ s k e,
+    )
 
 pub judge-spec : {M : Type 1} → statement M
 judge-spec =

@@ -1,0 +1,202 @@
+-- What comes after a node's operands: it is finished, asked about, takes an input or is forwarded, as the rules say.
+-- Assumes nothing.
+use Prim.Native.Nat.{ℕ, zero, suc, _+_, _*_, _<_, _≤_, _^_}
+use mathlib.Core.Path.{_≡_, refl, ap, sym, _∙_}
+use mathlib.Core.Bool.{Bool, true, false, cond}
+use mathlib.Core.Option.{Option, none, some}
+use mathlib.Core.List.{List, [], _∷_, _++_}
+use native.Mathlib.Numerals.{add-one}
+use native.Mathlib.Omega.{arith}
+use lib.ListN.{length, getD, drop}
+use lib.Dec.{eqb, ltb}
+use lib.Seq.{drop-cons}
+use borrow.Author.Tests.{eq-eqb, ne-eqb, ltb-true, ltb-false}
+use Rattle.btor.specs.Operators.{rust}
+use Rattle.rules.specs.Refusal.{Out, done, refuse, _>>=_}
+use Rattle.rules.specs.Table.{Kind, Node, fits}
+use Rattle.rules.specs.Walk.{St, Mark, fresh, kept, replaced, Held, setInputs, addHeld, addTally}
+use Rattle.rules.specs.Fold.{Fold, stays, swap, make, constOf}
+use Rattle.rules.specs.Memory as rules
+use Rattle.rules.specs.Memory.{find, foldFound, passedBy}
+use Rattle.rules.specs.Questions.{askOr, askBit, askIte, quiet}
+use Rattle.rules.specs.Visit.{Ways, newNumber, settle, finishStay, finish, forward, takeInput}
+use Rattle.rules.proofs.Base.{no}
+use Rattle.optimize.specs.declared.walk.Walk.{Walk}
+use Rattle.optimize.specs.declared.walk.Visited.{Visited}
+use Rattle.optimize.specs.declared.fold.Constant.{Constant}
+use Rattle.optimize.specs.declared.memory.Found.{Found}
+use Rattle.optimize.specs.declared.memory.Search.{Search}
+use Rattle.optimize.specs.View.{countOf, wordOf, nodeOf, tableOf, rowsOf, markBy, markOf, view, constantIs, waysIn}
+use Rattle.optimize.specs.Folding.{foldTwo, asksBit, valueIs, searchIs}
+use Rattle.optimize.specs.Process.{isStays, isRead, hasReplacement, thenAsk, settleThen, bitOf, takeOf, afterOne, afterTwo, foldedTwo, afterIte}
+use Rattle.optimize.proofs.Views.{mark-below}
+use Rattle.optimize.proofs.Steps.{table-length, drop-past}
+use Rattle.optimize.proofs.Asks.{is-stay, chain-bit-more, chain-two}
+
+-- ---- finishing
+module _ (g : List ℕ) (ways : Ways) (k : ℕ) (σ : St) (F : Fold) (more : St → Out (St × Fold)) where
+  pub finish-folded : isStays F ≡ false → settle (tableOf g) ways k σ F ≡ finish (tableOf g) ways k σ F more
+  unfolding finish
+  finish-folded e = go F e
+    where
+      go : (G : Fold) → isStays G ≡ false → settle (tableOf g) ways k σ G ≡ finish (tableOf g) ways k σ G more
+      go stays e = no (sym e)
+      go (swap r) e = refl
+      go (make s v) e = refl
+
+  pub finish-quiet : isStays F ≡ true → ways .minimise ≡ false → settle (tableOf g) ways k σ F ≡ finish (tableOf g) ways k σ F more
+  unfolding finish finishStay
+  finish-quiet e m = rw (is-stay F e, m)
+
+  pub finish-asks : isStays F ≡ true → ways .minimise ≡ true → settleThen g ways k (more σ) ≡ finish (tableOf g) ways k σ F more
+  unfolding finish finishStay
+  finish-asks e m = rw (is-stay F e, m)
+
+pub quiet-stays : (g : List ℕ) (ways : Ways) (k : ℕ) (σ : St) (F : Fold) (b : Bool) → ways .minimise ≡ true → isStays F ≡ true → b ≡ false
+    → settle (tableOf g) ways k σ F ≡ finish (tableOf g) ways k σ F (bitOf g ways k b)
+unfolding finish finishStay
+quiet-stays g ways k σ F b m e d = rw (is-stay F e, m, d)
+
+pub bit-asks : (g : List ℕ) (ways : Ways) (k : ℕ) (b : Bool) (σ : St) → b ≡ true → askBit (ways .replyCount) (countOf g) k quiet σ ≡ bitOf g ways k b σ
+bit-asks g ways k b σ e = rw e
+
+-- ---- the rows of the state are those of the buffers
+module _ (h : List Held) (g inputs replies R S : List ℕ) (w : Walk) (ways : Ways) (k : ℕ) (K : Kind) where
+  pub one-is : (x : ℕ) (F : Fold) → F ≡ Rattle.optimize.specs.Folding.foldOne K (countOf g) (wordOf g k 1) (constOf (rowsOf (countOf g) (w .made) R) x)
+      → settle (tableOf g) ways k (view h g inputs replies R S w) F ≡ afterOne g ways K (view h g inputs replies R S w) k x
+  unfolding view
+  one-is x F e = ap (settle (tableOf g) ways k (view h g inputs replies R S w)) e
+
+  pub two-is : (x y : ℕ) (F : Fold) (b : Bool) → isRead K ≡ false → F ≡ foldTwo K (countOf g) (wordOf g k 1) x y (constOf (rowsOf (countOf g) (w .made) R) x) (constOf (rowsOf (countOf g) (w .made) R) y)
+      → b ≡ asksBit K (wordOf g k 1)
+      → finish (tableOf g) ways k (view h g inputs replies R S w) F (bitOf g ways k b) ≡ afterTwo g ways K (view h g inputs replies R S w) k x y
+  unfolding view afterTwo
+  two-is x y F b r e d =
+      let σ : St = view h g inputs replies R S w in
+      rw (e, d) (sym (ap (λ z. elim z [ true ↦ forward (tableOf g) ways k σ x (constOf (σ .rows) y) | false ↦ foldedTwo g ways K σ k x y ]) r))
+
+  pub read-is : (x y : ℕ) (c : Option ℕ) → isRead K ≡ true → c ≡ constOf (rowsOf (countOf g) (w .made) R) y
+      → forward (tableOf g) ways k (view h g inputs replies R S w) x c ≡ afterTwo g ways K (view h g inputs replies R S w) k x y
+  unfolding view afterTwo
+  read-is x y c r e =
+      let σ : St = view h g inputs replies R S w in
+      rw e (sym (ap (λ z. elim z [ true ↦ forward (tableOf g) ways k σ x (constOf (σ .rows) y) | false ↦ foldedTwo g ways K σ k x y ]) r))
+
+-- ---- forwarding
+module _ (h : List Held) (g inputs replies dumps R S : List ℕ) (minimise : Bool) (w : Walk) (k m : ℕ) where
+  abbrev ways : Ways
+  ways = waysIn dumps minimise replies
+
+  pub forward-none : (c : Constant) → c ≡ Constant.None
+      → settle (tableOf g) ways k (view h g inputs replies R S w) stays ≡ forward (tableOf g) ways k (view h g inputs replies R S w) m (constantIs c)
+  unfolding forward
+  forward-none c e = sym (ap (λ z. forward (tableOf g) ways k (view h g inputs replies R S w) m (constantIs z)) e)
+
+  -- what a search found is recorded with its counts
+  pub forward-some : (c : Constant) (x : ℕ) (s : Search) (w′ : Walk) (p : ℕ) (F : Fold) → c ≡ Constant.Imm x
+      → searchIs s ≡ find rust (countOf g) (rowsOf (countOf g) (w .made) R) x m
+      → p ≡ passedBy (valueIs (s .found)) (s .passed) → F ≡ foldFound (valueIs (s .found))
+      → view h g inputs replies R S w′ ≡ addTally (view h g inputs replies R S w) (s .looked) p
+      → settle (tableOf g) ways k (view h g inputs replies R S w′) F ≡ forward (tableOf g) ways k (view h g inputs replies R S w) m (constantIs c)
+  unfolding forward view
+  forward-some c x s w′ p F e q ep ef ew =
+      let σ : St = view h g inputs replies R S w in
+      ap (λ τ. settle (tableOf g) ways k τ F) ew
+      ∙ rw (ep, ef)
+      (ap (λ (r : rules.Found). settle (tableOf g) ways k (addTally σ (r .looked) (passedBy (r .value) (r .unsettled))) (foldFound (r .value))) (q ∙ ap (λ n. find rust n (σ .rows) x m) (sym (table-length g)))
+      ∙ sym (ap (λ z. forward (tableOf g) ways k σ m (constantIs z)) e))
+
+pub tally-is : (h : List Held) (g inputs replies R S : List ℕ) (w : Walk) (l p : ℕ)
+    → view h g inputs replies R S (record { made = w .made; taken = w .taken; used = w .used; asked = w .asked; looked = w .looked + l; passed = w .passed + p }) ≡ addTally (view h g inputs replies R S w) l p
+unfolding view
+tally-is h g inputs replies R S w l p = refl
+
+-- ---- inputs
+module _ (g : List ℕ) (ways : Ways) (σ : St) (k : ℕ) where
+  abbrev takeAt : List ℕ → Out (St × ℕ)
+  takeAt l = takeInput (tableOf g) ways σ k (nodeOf g k) l
+
+  pub take-none : σ .inputs ≡ [] → settle (tableOf g) ways k σ stays ≡ takeOf g ways σ k
+  unfolding takeInput
+  take-none e = sym (ap takeAt e)
+
+  module _ (x : ℕ) (xs : List ℕ) (e : σ .inputs ≡ x ∷ xs) where
+    pub take-dump : ways .dump (wordOf g k 5) ≡ true → settle (tableOf g) ways k σ stays ≡ takeOf g ways σ k
+    unfolding takeInput
+    take-dump d = sym (ap takeAt e ∙ rw (takeInput, d))
+
+    module _ (d : ways .dump (wordOf g k 5) ≡ false) where
+      pub take-memory : wordOf g k 1 ≡ 3 → refuse 8 1 k ≡ takeOf g ways σ k
+      unfolding takeInput
+      take-memory s = sym (ap takeAt e ∙ rw (takeInput, d, eq-eqb (wordOf g k 1) 3 s))
+
+      pub take-wide : (wordOf g k 1 ≡ 3 → ⊥) → fits (wordOf g k 1) x ≡ false → refuse 10 1 k ≡ takeOf g ways σ k
+      unfolding takeInput
+      take-wide s l = sym (ap takeAt e ∙ rw (takeInput, d, ne-eqb (wordOf g k 1) 3 s, l))
+
+      pub take-made : (wordOf g k 1 ≡ 3 → ⊥) → fits (wordOf g k 1) x ≡ true
+          → settle (tableOf g) ways k (addHeld (setInputs σ xs) k (newNumber (tableOf g) ways σ)) (make (wordOf g k 1) x) ≡ takeOf g ways σ k
+      unfolding takeInput
+      take-made s l = sym (ap takeAt e ∙ rw (takeInput, d, ne-eqb (wordOf g k 1) 3 s, l))
+
+module _ (h : List Held) (g inputs replies R S : List ℕ) (w : Walk) where
+  inputs-are : view h g inputs replies R S w .inputs ≡ drop (w .taken) inputs
+  unfolding view
+  inputs-are = refl
+
+  pub inputs-none : length inputs ≤ w .taken → view h g inputs replies R S w .inputs ≡ []
+  inputs-none l = inputs-are ∙ drop-past (w .taken) inputs l
+
+  pub inputs-some : w .taken < length inputs → view h g inputs replies R S w .inputs ≡ getD inputs (w .taken) 0 ∷ drop (suc (w .taken)) inputs
+  inputs-some l = inputs-are ∙ drop-cons inputs (w .taken) 0 l
+
+  -- the state that took the input is held by the new constant
+  pub took : (k r : ℕ)
+      → view (h ++ (record { state = k; by = r } ∷ [])) g inputs replies R S (record { made = w .made; taken = w .taken + 1; used = w .used; asked = w .asked; looked = w .looked; passed = w .passed })
+      ≡ addHeld (setInputs (view h g inputs replies R S w) (drop (suc (w .taken)) inputs)) k r
+  unfolding view
+  took k r = rw (add-one (w .taken))
+
+pub dump-past : (ds : List ℕ) (name : ℕ) → length ds ≤ name → eqb (getD ds name 0) 1 ≡ false
+dump-past [] zero l = refl
+dump-past [] (suc name) l = refl
+dump-past (d ∷ ds) zero l = let o : ⊥ = omega arith in absurd o
+dump-past (d ∷ ds) (suc name) l = dump-past ds name (omega arith)
+
+-- ---- the questions of an Ite
+module _ (g : List ℕ) (ways : Ways) (k : ℕ) (σ : St) (x y z : ℕ) (m : ways .minimise ≡ true) where
+  ite-asks : (o : Out (St × Fold)) → o ≡ askIte (ways .replyCount) (countOf g) (wordOf g k 1) k x y z σ → settleThen g ways k o ≡ afterIte g ways σ k x y z
+  unfolding finish finishStay
+  ite-asks o e = ap (settleThen g ways k) e ∙ finish-asks g ways k σ stays (askIte (ways .replyCount) (countOf g) (wordOf g k 1) k x y z) refl m
+
+  pub ite-bit : wordOf g k 1 ≡ 1 → settleThen g ways k (thenAsk (ways .replyCount) 3 k x (swap x) (askBit (ways .replyCount) (countOf g) k quiet σ)) ≡ afterIte g ways σ k x y z
+  ite-bit s = ite-asks _ (chain-bit-more (ways .replyCount) (countOf g) k 3 k x x σ ∙ rw (eq-eqb (wordOf g k 1) 1 s))
+
+  pub ite-word : (wordOf g k 1 ≡ 1 → ⊥) → wordOf g k 1 ≡ 2
+      → settleThen g ways k (thenAsk (ways .replyCount) 3 k z (swap z) (askOr (ways .replyCount) 3 k y (swap y) quiet σ)) ≡ afterIte g ways σ k x y z
+  ite-word d s = ite-asks _ (chain-two (ways .replyCount) 3 k z y 3 k y z σ ∙ rw (ne-eqb (wordOf g k 1) 1 d, eq-eqb (wordOf g k 1) 2 s))
+
+  pub ite-other : (wordOf g k 1 ≡ 1 → ⊥) → (wordOf g k 1 ≡ 2 → ⊥) → settle (tableOf g) ways k σ stays ≡ afterIte g ways σ k x y z
+  ite-other d s = ite-asks (done (σ, stays)) (rw (ne-eqb (wordOf g k 1) 1 d, ne-eqb (wordOf g k 1) 2 s))
+
+-- ---- a mark that says replaced
+has-replacement : (n : ℕ) (S : List ℕ) (k : ℕ) → k < n → 1 < getD S k 0 → true ≡ hasReplacement (markOf n S k)
+has-replacement n S k l h =
+    sym (ap hasReplacement (mark-below n S k l)
+    ∙ ap (λ t. hasReplacement (elim t [ true ↦ fresh | false ↦ elim (eqb (getD S k 0) 1) [ true ↦ kept | false ↦ replaced (getD S (n + k) 0) ] ])) (ne-eqb (getD S k 0) 0 (λ e. omega arith))
+    ∙ ap (λ t. hasReplacement (elim t [ true ↦ kept | false ↦ replaced (getD S (n + k) 0) ])) (ne-eqb (getD S k 0) 1 (λ e. omega arith)))
+
+no-replacement : (n : ℕ) (S : List ℕ) (k : ℕ) → k < n → getD S k 0 ≤ 1 → false ≡ hasReplacement (markOf n S k)
+no-replacement n S k l h = sym (ap hasReplacement (mark-below n S k l) ∙ go (getD S k 0) h)
+  where
+    go : (m : ℕ) → m ≤ 1 → hasReplacement (markBy m (getD S (n + k) 0)) ≡ false
+    go zero l = refl
+    go (suc zero) l = refl
+    go (suc (suc m)) l = let o : ⊥ = omega arith in absurd o
+
+pub replaced-by : (n : ℕ) (S : List ℕ) (k : ℕ) → k < n → ltb 1 (getD S k 0) ≡ hasReplacement (markOf n S k)
+replaced-by n S k l = go (ltb 1 (getD S k 0)) refl
+  where
+    go : (b : Bool) → ltb 1 (getD S k 0) ≡ b → ltb 1 (getD S k 0) ≡ hasReplacement (markOf n S k)
+    go true e = e ∙ has-replacement n S k l (ltb-true 1 (getD S k 0) e)
+    go false e = e ∙ no-replacement n S k l (ltb-false 1 (getD S k 0) e)

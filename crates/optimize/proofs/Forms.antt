@@ -1,0 +1,134 @@
+-- The rules' process of a node is what its form says, and the operands that its form visits stand before it.
+-- Assumes nothing.
+use Prim.Native.Nat.{ℕ, _<_}
+use mathlib.Core.Path.{_≡_, refl, ap, sym, _∙_, subst}
+use mathlib.Core.Bool.{Bool, true, false, cond}
+use mathlib.Core.List.{List, [], _∷_}
+use native.Mathlib.Omega.{arith}
+use lib.ListN.{length}
+use lib.Dec.{eqb}
+use Rattle.rules.specs.Refusal.{Out, refused, done, refuse, _>>=_}
+use Rattle.rules.specs.Lists.{All}
+use Rattle.rules.specs.Table.{Kind, Const, Read, Write, Word, Ult, Ext, Ite, Eq, And, Or, Not, State, Next, Input, Bad, Node, kindOf, with, nodeAt, operandsAs}
+use Rattle.rules.specs.Legal.{AllLegal}
+use Rattle.rules.specs.Walk.{St, Mark, fresh, kept, replaced, setRow}
+use Rattle.rules.specs.Fold.{stays, constOf}
+use Rattle.rules.specs.Visit.{Ways, Branch, left, right, undecided, branch, notReplaced, visit1, visit2, visit3, unary, binary, iteOn, takeInput, settle, process, visit}
+use Rattle.optimize.specs.declared.visit.Form.{Form}
+use Rattle.optimize.specs.View.{countOf, wordOf, nodeOf, tableOf, waysIn}
+use Rattle.optimize.specs.Folding.{foldTwo, foldOne, asksBit}
+use Rattle.optimize.specs.Process.{formOf, hasReplacement, afterOne, afterTwo, takeOf, visitOf, processOf, oneOf, twoOf, threeOf, chosenOf, iteOf, valueOf, stepOf, byForm, Before}
+use Rattle.optimize.proofs.Steps.{table-length}
+use Rattle.optimize.proofs.Walks.{node-at}
+
+-- ---- binds
+assoc : {A B C : Type 0} (o : Out A) (f : A → Out B) (k : B → Out C) → ((o >>= f) >>= k) ≡ (o >>= λ x. f x >>= k)
+assoc (refused z) f k = refl
+assoc (done x) f k = refl
+
+bind-same : {A B : Type 0} (o : Out A) (f k : A → Out B) → ((x : A) → f x ≡ k x) → (o >>= f) ≡ (o >>= k)
+bind-same (refused z) f k h = refl
+bind-same (done x) f k h = h x
+
+-- ---- process by form
+module _ (g dumps replies : List ℕ) (minimise : Bool) (f : ℕ) (σ : St) (k : ℕ) where
+  abbrev ways : Ways
+  ways = waysIn dumps minimise replies
+
+  abbrev vis : St → ℕ → Out (St × ℕ)
+  vis = visit (tableOf g) ways f
+
+  abbrev byKind : Kind → Out (St × ℕ)
+  byKind K = process (tableOf g) ways vis K σ k (nodeOf g k)
+
+  one-is : (K : Kind) → oneOf g ways f K σ k ≡ (visit1 vis σ k (nodeOf g k) >>= λ p. afterOne g ways K (p .0) k (p .1))
+  unfolding visit1
+  one-is K = sym (assoc (visitOf g ways f σ (wordOf g k 2)) _ _)
+
+  two-is : (K : Kind) → twoOf g ways f K σ k ≡ (visit2 vis σ k (nodeOf g k) >>= λ p. afterTwo g ways K (p .0) k (p .1 .0) (p .1 .1))
+  unfolding visit2
+  two-is K =
+      sym (assoc (visitOf g ways f σ (wordOf g k 2)) _ _
+      ∙ bind-same (visitOf g ways f σ (wordOf g k 2)) _ _ (λ p. assoc (visitOf g ways f (p .0) (wordOf g k 3)) _ _))
+
+  three-is : threeOf g ways f σ k ≡ byKind Write
+  unfolding process visit3
+  three-is =
+      sym (assoc (visitOf g ways f σ (wordOf g k 2)) _ _
+      ∙ bind-same (visitOf g ways f σ (wordOf g k 2)) _ _ (λ p. assoc (visitOf g ways f (p .0) (wordOf g k 3)) _ _
+      ∙ bind-same (visitOf g ways f (p .0) (wordOf g k 3)) _ _ (λ q. assoc (visitOf g ways f (q .0) (wordOf g k 4)) _ _)))
+
+  chosen-is : (br : Branch) (x : ℕ) (τ : St) → chosenOf g ways f br x τ k ≡ iteOn (tableOf g) ways vis τ k (nodeOf g k) x br
+  unfolding chosenOf iteOn
+  chosen-is left x τ = refl
+  chosen-is right x τ = refl
+  chosen-is undecided x τ = rw (table-length g)
+
+  ite-is : iteOf g ways f σ k ≡ byKind Ite
+  unfolding process
+  ite-is = bind-same (visitOf g ways f σ (wordOf g k 2)) _ _ (λ p. chosen-is (branch (constOf (p .0 .rows) (p .1))) (p .1) (p .0))
+
+  replaced-is : (m : Mark) (τ : St) → elim (hasReplacement m) [ true ↦ refuse 9 1 k | false ↦ valueOf g ways f τ k ]
+      ≡ (notReplaced k m τ >>= λ υ. visitOf g ways f υ (wordOf g k 3) >>= λ q. settle (tableOf g) ways k (setRow (q .0) k (with (nodeOf g k) (wordOf g k 2) (q .1) (wordOf g k 4))) stays)
+  replaced-is fresh τ = refl
+  replaced-is kept τ = refl
+  replaced-is (replaced r) τ = refl
+
+  step-is : stepOf g ways f σ k ≡ byKind Next
+  unfolding process
+  step-is = bind-same (visitOf g ways f σ (wordOf g k 2)) _ _ (λ p. replaced-is (p .0 .mark (wordOf g k 2)) (p .0))
+
+  state-is : (b : Bool) → eqb (wordOf g k 3) 1 ≡ b → byForm g ways f (cond b Form.One Form.Free) State σ k ≡ byKind State
+  unfolding byForm process unary foldOne
+  state-is true e = one-is State ∙ sym (ap (λ b. elim b [ true ↦ unary (tableOf g) ways vis σ k (nodeOf g k) (λ x. stays) | false ↦ takeOf g ways σ k ]) e)
+  state-is false e = sym (ap (λ b. elim b [ true ↦ unary (tableOf g) ways vis σ k (nodeOf g k) (λ x. stays) | false ↦ takeOf g ways σ k ]) e)
+
+  pub form-is : (K : Kind) → byForm g ways f (formOf K (wordOf g k 3)) K σ k ≡ byKind K
+  unfolding byForm formOf process unary binary foldOne foldTwo asksBit afterTwo
+  form-is Const = rw (table-length g)
+  form-is Read = two-is Read
+  form-is Write = three-is
+  form-is (Word op) = two-is (Word op)
+  form-is Ult = two-is Ult ∙ rw (table-length g)
+  form-is Ext = one-is Ext
+  form-is Ite = ite-is
+  form-is Eq = two-is Eq ∙ rw (table-length g)
+  form-is And = two-is And ∙ rw (table-length g)
+  form-is Or = two-is Or
+  form-is Not = one-is Not ∙ rw (table-length g)
+  form-is State = state-is (eqb (wordOf g k 3) 1) refl
+  form-is Next = step-is
+  form-is Input = refl
+  form-is Bad = one-is Bad
+
+  -- where the node's kind is K and its form F
+  pub process-is : (K : Kind) (F : Form) → K ≡ kindOf (wordOf g k 0) → F ≡ formOf K (wordOf g k 3) → byForm g ways f F K σ k ≡ processOf g ways f σ k
+  process-is K F e d = ap (λ z. byForm g ways f z K σ k) d ∙ form-is K ∙ ap byKind e
+
+-- ---- operands before their node
+before-state : (g : List ℕ) (k : ℕ) (b : Bool) → All (λ x. x < k) (cond b (wordOf g k 2 ∷ []) []) → Before (cond b Form.One Form.Free) g k
+before-state g k true h = h .0
+before-state g k false h = tt
+
+before-form : (g : List ℕ) (k : ℕ) (K : Kind) → All (λ x. x < k) (operandsAs K (nodeOf g k)) → Before (formOf K (wordOf g k 3)) g k
+unfolding formOf
+before-form g k Const h = tt
+before-form g k Read h = (h .0, h .1 .0)
+before-form g k Write h = (h .0, h .1 .0, h .1 .1 .0)
+before-form g k (Word op) h = (h .0, h .1 .0)
+before-form g k Ult h = (h .0, h .1 .0)
+before-form g k Ext h = h .0
+before-form g k Ite h = (h .0, h .1 .0, h .1 .1 .0)
+before-form g k Eq h = (h .0, h .1 .0)
+before-form g k And h = (h .0, h .1 .0)
+before-form g k Or h = (h .0, h .1 .0)
+before-form g k Not h = h .0
+before-form g k State h = before-state g k (eqb (wordOf g k 3) 1) h
+before-form g k Next h = (h .0, h .1 .0)
+before-form g k Input h = tt
+before-form g k Bad h = h .0
+
+pub before-is : (g : List ℕ) (k : ℕ) → AllLegal (tableOf g) → k < countOf g → (K : Kind) (F : Form) → K ≡ kindOf (wordOf g k 0) → F ≡ formOf K (wordOf g k 3) → Before F g k
+before-is g k legal l K F e d =
+    let b : All (λ x. x < k) (operandsAs (kindOf (wordOf g k 0)) (nodeOf g k)) = subst (λ (nd : Node). All (λ x. x < k) (operandsAs (nd .kind) nd)) (node-at g k l) (legal k (omega (arith, table-length g)) .before) in
+    subst (λ z. Before z g k) (sym d) (before-form g k K (subst (λ J. All (λ x. x < k) (operandsAs J (nodeOf g k))) (sym e) b))

@@ -1,0 +1,54 @@
+-- The given words of a judged call as the walk reads them: the nodes at their places are the table that was cut, and the parts of the words its lists.
+-- By the places of the sections (tables' `IsCut`) and equality by index.
+-- Assumes nothing.
+use Prim.Native.Nat.{ℕ, _+_, _-_, _*_, _<_}
+use mathlib.Core.Path.{_≡_, refl, sym, ap, _∙_}
+use mathlib.Core.List.{List}
+use native.Mathlib.Omega.{arith}
+use lib.ListN.{getD, take, drop}
+use lib.Seq.{ext-getD}
+use Rattle.rules.specs.Table.{Node, decode, unknown, nodeAt}
+use Rattle.rules.specs.Limits.{house}
+use Rattle.rules.specs.Sections.{encode}
+use Rattle.tables.specs.SectionAnswers.{sectionsIn, wordsIn, Lies}
+use Rattle.tables.specs.Judging.{tableIn, IsCut}
+use Rattle.tables.specs.declared.sections.Part.{Part}
+use Rattle.tables.specs.declared.sections.Sections.{Sections}
+use Rattle.tables.proofs.JudgeLaws.{row-words, rows-count, node-in}
+use Rattle.tables.proofs.ListLaws.{table-count}
+use Rattle.rules.proofs.Sections.{encode-cut}
+use Rattle.optimize.specs.View.{countOf, nodeOf, firsts, tableOf}
+use Rattle.optimize.proofs.Views.{firsts-length, firsts-at}
+
+module _ (ws : List ℕ) (s : Sections) (h : IsCut ws s) where
+  -- the first word is the count of nodes
+  pub count-is : countOf ws ≡ s .nodes .count
+  unfolding encode
+  count-is = ap (λ (l : List ℕ). getD l 0 0) (sym (encode-cut house ws (sectionsIn ws s) (h .whole) .0)) ∙ rows-count ws s h
+
+  pub node-is : (k : ℕ) → k < s .nodes .count → nodeOf ws k ≡ nodeAt (tableIn ws s) k
+  node-is k l = sym (node-in ws s h k l ∙ ap decode (row-words ws (6 * k + 1)) ∙ places)
+    where
+      at : (j : ℕ) → 6 * k + 1 + j ≡ 1 + 6 * k + j
+      at j = omega arith
+
+      first : 6 * k + 1 ≡ 1 + 6 * k + 0
+      first = omega arith
+
+      places : decode (record { code = getD ws (6 * k + 1) 0; sort = getD ws (6 * k + 1 + 1) 0; a = getD ws (6 * k + 1 + 2) 0; b = getD ws (6 * k + 1 + 3) 0; c = getD ws (6 * k + 1 + 4) 0; name = getD ws (6 * k + 1 + 5) 0 }) ≡ nodeOf ws k
+      places = rw (at 1, at 2, at 3, at 4, at 5, first)
+
+  pub table-is : tableOf ws ≡ tableIn ws s
+  unfolding tableOf
+  table-is =
+      ext-getD unknown (firsts (countOf ws) (nodeOf ws)) (tableIn ws s)
+      (firsts-length (countOf ws) (nodeOf ws) ∙ count-is ∙ sym (table-count ws s h))
+      (λ k l.
+      let below : k < countOf ws = omega (arith, firsts-length (countOf ws) (nodeOf ws)) in
+      firsts-at (countOf ws) (nodeOf ws) unknown k below ∙ node-is k (omega (arith, count-is)))
+
+-- a part of the words, from its start to its end, is the section's list
+pub part-is : (ws : List ℕ) (at : ℕ) (p : Part) → Lies ws at 1 p → take (p .end - p .start) (drop (p .start) ws) ≡ wordsIn ws 1 p
+part-is ws at p l =
+    let e : p .end - p .start ≡ 1 * p .count = omega (arith, l .ends) in
+    ap (λ (n : ℕ). take n (drop (p .start) ws)) e

@@ -1,0 +1,111 @@
+-- What each store of buffers.rt makes of the state that lies in the buffers, and what a read of a constant finds there.
+-- Assumes nothing.
+use Prim.Native.Nat.{ℕ, zero, suc, _+_, _-_, _*_, _<_, _≤_}
+use mathlib.Core.Path.{_≡_, refl, ap, sym, _∙_}
+use mathlib.Core.Bool.{true, false}
+use mathlib.Core.Option.{Option, none, some}
+use mathlib.Core.List.{List, [], _∷_}
+use native.Mathlib.Numerals.{add-one}
+use native.Mathlib.Omega.{arith}
+use lib.ListN.{length, getD, drop, set, length-set}
+use lib.Dec.{eqb}
+use lib.Seq.{getD-set-same, getD-set-other}
+use Rattle.rules.specs.Lists.{All}
+use Rattle.rules.specs.Table.{Kind, Const, Input, Node, kinds, kindOf, kindCode, with, is}
+use Rattle.rules.specs.Walk.{Held, setRow, setMark, addConst}
+use Rattle.rules.specs.Fold.{constOf}
+use Rattle.optimize.specs.declared.walk.Walk.{Walk}
+use Rattle.optimize.specs.View.{countOf, wordOf, nodeOf, rowsOf, markBy, view}
+use Rattle.optimize.proofs.Views.{six, six-other, six-0, six-1, six-2, six-3, six-4, six-5, rows-pushed, rows-put, marks-put, asked-same, row-below, row-made, row-past}
+
+module _ (h : List Held) (g inputs replies R S : List ℕ) (w : Walk) where
+  pub pushed : (n s x : ℕ) → n ≡ countOf g → 2 + 6 * n + 2 * (2 + w .made) + 1 < length R
+      → view h g inputs replies (set (set R (2 + 6 * n + 2 * (2 + w .made)) s) (2 + 6 * n + 2 * (2 + w .made) + 1) x) S (record { made = w .made + 1; taken = w .taken; used = w .used; asked = w .asked; looked = w .looked; passed = w .passed })
+      ≡ addConst (view h g inputs replies R S w) (countOf g + 2 + w .made) s x
+  unfolding view
+  pushed n s x i room =
+      let e : ℕ = 2 + 6 * countOf g + 2 * (2 + w .made) in
+      rw (
+        i,
+        rows-pushed (countOf g) (w .made) R (set (set R e s) (e + 1) x) s x
+            (λ j l. getD-set-other (set R e s) (e + 1) j x 0 (λ q. omega arith) ∙ getD-set-other R e j s 0 (λ q. omega arith))
+            (getD-set-other (set R e s) (e + 1) e x 0 (λ q. omega arith) ∙ getD-set-same R e s 0 (omega arith))
+            (getD-set-same (set R e s) (e + 1) x 0 (simp length-set (omega arith))),
+        add-one (w .made),
+      )
+
+  pub marked : (n k m r r′ : ℕ) → n ≡ countOf g → r′ ≡ r → k < countOf g → n + k < length S
+      → view h g inputs replies R (set (set S k m) (n + k) r′) w ≡ setMark (view h g inputs replies R S w) k (markBy m r)
+  unfolding view
+  marked n k m r r′ i d l room =
+      let T : List ℕ = set (set S k m) (countOf g + k) r in
+      rw (
+        i,
+        d,
+        marks-put (countOf g) S T k m r l
+            (λ j _ a b. getD-set-other (set S k m) (countOf g + k) j r 0 b ∙ getD-set-other S k j m 0 a)
+            (getD-set-other (set S k m) (countOf g + k) k r 0 (λ q. omega arith) ∙ getD-set-same S k m 0 (omega arith))
+            (getD-set-same (set S k m) (countOf g + k) r 0 (simp length-set (omega arith))),
+        asked-same (countOf g) (w .asked) S T (λ j a b. getD-set-other (set S k m) (countOf g + k) j r 0 (λ q. omega arith) ∙ getD-set-other S k j m 0 (λ q. omega arith)),
+      )
+
+  pub rowed : (k u v x y z a b c : ℕ) (q : ℕ) → k < countOf g → 6 + 6 * k < length R → u ≡ getD g (1 + 6 * k) 0 → v ≡ wordOf g k 1 → x ≡ a → y ≡ b → z ≡ c → q ≡ wordOf g k 5
+      → view h g inputs replies (six R (1 + 6 * k) u v x y z q) S w ≡ setRow (view h g inputs replies R S w) k (with (nodeOf g k) a b c)
+  unfolding view
+  rowed k u v x y z a b c q l room e0 e1 e2 e3 e4 e5 =
+      let Q : List ℕ = six R (1 + 6 * k) u v x y z q in
+      let r : 1 + 6 * k + 5 < length R = omega arith in
+      let z0 : 1 + 6 * k + 0 ≡ 1 + 6 * k = omega arith in
+      let s0 : wordOf Q k 0 ≡ wordOf g k 0 = ap (λ i. getD Q i 0) z0 ∙ six-0 R (1 + 6 * k) u v x y z q r ∙ e0 ∙ sym (ap (λ i. getD g i 0) z0) in
+      let s1 : wordOf Q k 1 ≡ wordOf g k 1 = six-1 R (1 + 6 * k) u v x y z q r ∙ e1 in
+      let s2 : wordOf Q k 2 ≡ a = six-2 R (1 + 6 * k) u v x y z q r ∙ e2 in
+      let s3 : wordOf Q k 3 ≡ b = six-3 R (1 + 6 * k) u v x y z q r ∙ e3 in
+      let s4 : wordOf Q k 4 ≡ c = six-4 R (1 + 6 * k) u v x y z q r ∙ e4 in
+      let s5 : wordOf Q k 5 ≡ wordOf g k 5 = six-5 R (1 + 6 * k) u v x y z q r ∙ e5 in
+      let here : nodeOf Q k ≡ with (nodeOf g k) a b c = cc in
+      rw (rows-put (countOf g) (w .made) R Q k (with (nodeOf g k) a b c) l (λ i d. six-other R (1 + 6 * k) u v x y z q i (λ a′ b′. d (omega arith) (omega arith))) here)
+
+-- ---- constants
+-- a kind has Const's code only at code 1
+abbrev NoConst : Kind → Type 0
+NoConst K = eqb (kindCode K) 1 ≡ false
+
+const-later : (i : ℕ) (Ks : List Kind) → All NoConst Ks → NoConst (getD Ks i Input)
+const-later i [] a = refl
+const-later zero (K ∷ Ks) a = a .0
+const-later (suc i) (K ∷ Ks) a = const-later i Ks (a .1)
+
+const-code : (c : ℕ) → (c ≡ 1 → ⊥) → NoConst (kindOf c)
+const-code zero h = refl
+const-code (suc zero) h = absurd (h refl)
+const-code (suc (suc c)) h =
+    const-later c (drop 1 kinds) (refl, (refl, (refl, (refl, (refl, (refl, (refl, (refl, (refl, (refl, (refl, (refl, (refl, (refl, (refl, (refl, (refl, (refl, (refl, (refl, (refl, tt)))))))))))))))))))))
+
+no-const : (c : ℕ) → (c ≡ 1 → ⊥) → (nd : Node) → nd .kind ≡ kindOf c → is Const nd ≡ false
+no-const c h nd e = ap (λ K. eqb (kindCode K) 1) e ∙ const-code c h
+
+is-const : (c : ℕ) → c ≡ 1 → (nd : Node) → nd .kind ≡ kindOf c → is Const nd ≡ true
+is-const c e nd d = ap (λ K. eqb (kindCode K) 1) (d ∙ ap kindOf e)
+
+-- the number of a row that is a constant
+abbrev constAs : Node → Option ℕ
+constAs nd = elim (is Const nd) [ true ↦ some (nd .a) | false ↦ none ]
+
+const-yes : (nd : Node) → is Const nd ≡ true → some (nd .a) ≡ constAs nd
+const-yes nd e = sym (ap (λ b. elim b [ true ↦ some (nd .a) | false ↦ none ]) e)
+
+const-not : (nd : Node) → is Const nd ≡ false → none ≡ constAs nd
+const-not nd e = sym (ap (λ b. elim b [ true ↦ some (nd .a) | false ↦ none ]) e)
+
+module _ (n m : ℕ) (R : List ℕ) (at : ℕ) where
+  pub constant-row : at < n → wordOf R at 0 ≡ 1 → (x : ℕ) → x ≡ wordOf R at 2 → some x ≡ constOf (rowsOf n m R) at
+  constant-row l e x d = ap some d ∙ const-yes (nodeOf R at) (is-const (wordOf R at 0) e (nodeOf R at) refl) ∙ sym (ap constAs (row-below n m R at l))
+
+  pub constant-no-row : at < n → (wordOf R at 0 ≡ 1 → ⊥) → none ≡ constOf (rowsOf n m R) at
+  constant-no-row l e = const-not (nodeOf R at) (no-const (wordOf R at 0) e (nodeOf R at) refl) ∙ sym (ap constAs (row-below n m R at l))
+
+  pub constant-made : n ≤ at → at - n < 2 + m → some (getD R (2 + 6 * n + 2 * (at - n) + 1) 0) ≡ constOf (rowsOf n m R) at
+  constant-made l e = sym (ap constAs (row-made n m R at l e))
+
+  pub constant-none : n ≤ at → 2 + m ≤ at - n → none ≡ constOf (rowsOf n m R) at
+  constant-none l e = sym (ap constAs (row-past n m R at l e))

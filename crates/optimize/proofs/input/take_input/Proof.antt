@@ -1,0 +1,141 @@
+-- No input left or a memory dump: the State stays. A memory and too wide an input are refused; else a constant replaces it.
+-- Assumes nothing.
+use borrow.Author.Needs.{needs}
+use mathlib.Core.Path.{_≡_, refl, ap, sym, _∙_}
+use native.Mathlib.Omega.{arith}
+use borrow.Author.Tests.{not-true, not-false}
+use Prim.Native.Nat.{ℕ, suc, _+_}
+use mathlib.Core.List.{[], _∷_, _++_}
+use lib.ListN.{getD, drop}
+use Rattle.rules.specs.Table.{fits}
+use Rattle.rules.specs.Visit.{newNumber}
+use Rattle.optimize.specs.View.{view, outcomeOf, foldIs, countOf, tableOf, waysIn, constantIs}
+use Rattle.optimize.proofs.Finishes.{take-none, take-dump, take-memory, take-wide, take-made, inputs-none, inputs-some, took}
+use Rattle.optimize.proofs.input.take_input.Statement.{statement}
+use Rattle.optimize.proofs.input.take_input.Tie as tie
+
+settle-requires : tie.Need-settle-requires
+settle-requires c κs = search needs
+
+same-length : tie.Need-same-length
+same-length c = search needs
+
+same-length-2 : tie.Need-same-length-2
+same-length-2 c = search needs
+
+returns : tie.Need-returns
+returns c =
+    let at-settle = c .before .before .before .before in
+    let at-if1 = at-settle .before .before .before in
+    let start = at-if1 .before .before .before .before .before .before in
+    λ h replies minimise. (h, at-settle .settle .ensures h _ replies (waysIn (start .args .dumps .now) minimise replies) ∙ take-none (start .args .given .now) (waysIn (start .args .dumps .now) minimise replies) (view h (start .args .given .now) (start .args .inputs .now) replies (start .args .result .now) (start .args .scratch .now) (start .args .walk)) (start .args .node) (inputs-none h (start .args .given .now) (start .args .inputs .now) replies (start .args .result .now) (start .args .scratch .now) (start .args .walk) (at-if1 .if1 .taken)))
+
+operand-requires : tie.Need-operand-requires
+operand-requires c κs = search needs
+
+is-dump-requires : tie.Need-is-dump-requires
+is-dump-requires c κs = search needs
+
+settle-requires-2 : tie.Need-settle-requires-2
+settle-requires-2 c κs = search needs
+
+same-length-3 : tie.Need-same-length-3
+same-length-3 c = search needs
+
+same-length-4 : tie.Need-same-length-4
+same-length-4 c = search needs
+
+returns-2 : tie.Need-returns-2
+returns-2 c =
+    let at-settle2 = c .before .before .before .before in
+    let at-if2 = at-settle2 .before .before .before in
+    let at-is-dump = at-if2 .before in
+    let at-operand = at-is-dump .before in
+    let at-if1 = at-operand .before in
+    let start = at-if1 .before .before .before .before .before .before in
+    λ h replies minimise. (h, at-settle2 .settle2 .ensures h _ replies (waysIn (start .args .dumps .now) minimise replies) ∙ take-dump (start .args .given .now) (waysIn (start .args .dumps .now) minimise replies) (view h (start .args .given .now) (start .args .inputs .now) replies (start .args .result .now) (start .args .scratch .now) (start .args .walk)) (start .args .node) (getD (start .args .inputs .now) ((start .args .walk) .taken) 0) (drop (suc ((start .args .walk) .taken)) (start .args .inputs .now)) (inputs-some h (start .args .given .now) (start .args .inputs .now) replies (start .args .result .now) (start .args .scratch .now) (start .args .walk) (at-if1 .if1 .left)) (ap (λ k. (waysIn (start .args .dumps .now) minimise replies) .dump k) (sym (at-operand .operand .ensures)) ∙ sym (at-is-dump .is-dump .ensures) ∙ at-if2 .if2 .taken))
+
+word-requires : tie.Need-word-requires
+word-requires c κs = search needs
+
+returns-3 : tie.Need-returns-3
+unfolding outcomeOf
+returns-3 c =
+    let at-is-dump = c .before .before .before in
+    let at-operand = at-is-dump .before in
+    let at-if1 = at-operand .before in
+    let start = at-if1 .before .before .before .before .before .before in
+    λ h replies minimise. (h, take-memory (start .args .given .now) (waysIn (start .args .dumps .now) minimise replies) (view h (start .args .given .now) (start .args .inputs .now) replies (start .args .result .now) (start .args .scratch .now) (start .args .walk)) (start .args .node) (getD (start .args .inputs .now) ((start .args .walk) .taken) 0) (drop (suc ((start .args .walk) .taken)) (start .args .inputs .now)) (inputs-some h (start .args .given .now) (start .args .inputs .now) replies (start .args .result .now) (start .args .scratch .now) (start .args .walk) (at-if1 .if1 .left)) (ap (λ k. (waysIn (start .args .dumps .now) minimise replies) .dump k) (sym (at-operand .operand .ensures)) ∙ sym (at-is-dump .is-dump .ensures) ∙ c .before .before .if2 .left) (sym (c .before .word .ensures) ∙ c .if3 .taken))
+
+mul-value : tie.Need-mul-value
+mul-value c = search needs
+
+shared-slice-read-value : tie.Need-shared-slice-read-value
+shared-slice-read-value c = search needs
+
+fits-sort-requires : tie.Need-fits-sort-requires
+fits-sort-requires c κs = search needs
+
+returns-4 : tie.Need-returns-4
+unfolding outcomeOf
+returns-4 c =
+    let at-if3 = c .before .before .before in
+    let at-word = at-if3 .before in
+    let at-if2 = at-word .before in
+    let at-is-dump = at-if2 .before in
+    let at-operand = at-is-dump .before in
+    let at-if1 = at-operand .before in
+    let start = at-if1 .before .before .before .before .before .before in
+    λ h replies minimise. (h, take-wide (start .args .given .now) (waysIn (start .args .dumps .now) minimise replies) (view h (start .args .given .now) (start .args .inputs .now) replies (start .args .result .now) (start .args .scratch .now) (start .args .walk)) (start .args .node) (getD (start .args .inputs .now) ((start .args .walk) .taken) 0) (drop (suc ((start .args .walk) .taken)) (start .args .inputs .now)) (inputs-some h (start .args .given .now) (start .args .inputs .now) replies (start .args .result .now) (start .args .scratch .now) (start .args .walk) (at-if1 .if1 .left)) (ap (λ k. (waysIn (start .args .dumps .now) minimise replies) .dump k) (sym (at-operand .operand .ensures)) ∙ sym (at-is-dump .is-dump .ensures) ∙ at-if2 .if2 .left) (λ e. at-if3 .if3 .left (at-word .word .ensures ∙ e)) (ap (λ s. fits s (getD (start .args .inputs .now) (start .args .walk .taken) 0)) (sym (at-word .word .ensures)) ∙ sym (c .before .fits-sort .ensures) ∙ not-true _ (c .if4 .taken)))
+
+add-t12 : tie.Need-add-t12
+add-t12 c = search needs
+
+settle-requires-3 : tie.Need-settle-requires-3
+settle-requires-3 c κs = search needs
+
+same-length-5 : tie.Need-same-length-5
+same-length-5 c = search needs
+
+same-length-6 : tie.Need-same-length-6
+same-length-6 c = search needs
+
+returns-5 : tie.Need-returns-5
+returns-5 c =
+    let at-settle3 = c .before .before .before .before in
+    let at-if4 = at-settle3 .before .before .before in
+    let at-fits-sort = at-if4 .before in
+    let at-if3 = at-fits-sort .before .before in
+    let at-word = at-if3 .before in
+    let at-if2 = at-word .before in
+    let at-is-dump = at-if2 .before in
+    let at-operand = at-is-dump .before in
+    let at-if1 = at-operand .before in
+    let start = at-if1 .before .before .before .before .before .before in
+    λ h replies minimise. (h ++ (record { state = (start .args .node); by = (newNumber (tableOf (start .args .given .now)) (waysIn (start .args .dumps .now) minimise replies) (view h (start .args .given .now) (start .args .inputs .now) replies (start .args .result .now) (start .args .scratch .now) (start .args .walk))) } ∷ []), at-settle3 .settle3 .ensures _ _ replies (waysIn (start .args .dumps .now) minimise replies) ∙ rw (at-word .word .ensures, took h (start .args .given .now) (start .args .inputs .now) replies (start .args .result .now) (start .args .scratch .now) (start .args .walk) (start .args .node) (newNumber (tableOf (start .args .given .now)) (waysIn (start .args .dumps .now) minimise replies) (view h (start .args .given .now) (start .args .inputs .now) replies (start .args .result .now) (start .args .scratch .now) (start .args .walk)))) (take-made (start .args .given .now) (waysIn (start .args .dumps .now) minimise replies) (view h (start .args .given .now) (start .args .inputs .now) replies (start .args .result .now) (start .args .scratch .now) (start .args .walk)) (start .args .node) (getD (start .args .inputs .now) ((start .args .walk) .taken) 0) (drop (suc ((start .args .walk) .taken)) (start .args .inputs .now)) (inputs-some h (start .args .given .now) (start .args .inputs .now) replies (start .args .result .now) (start .args .scratch .now) (start .args .walk) (at-if1 .if1 .left)) (ap (λ k. (waysIn (start .args .dumps .now) minimise replies) .dump k) (sym (at-operand .operand .ensures)) ∙ sym (at-is-dump .is-dump .ensures) ∙ at-if2 .if2 .left) (λ e. at-if3 .if3 .left (at-word .word .ensures ∙ e)) (ap (λ s. fits s (getD (start .args .inputs .now) (start .args .walk .taken) 0)) (sym (at-word .word .ensures)) ∙ sym (at-fits-sort .fits-sort .ensures) ∙ not-false _ (at-if4 .if4 .left))))
+
+pub take-input-spec : {M : Type 1} → statement M
+take-input-spec =
+    tie.close
+    (tie.spec
+    settle-requires
+    same-length
+    same-length-2
+    returns
+    operand-requires
+    is-dump-requires
+    settle-requires-2
+    same-length-3
+    same-length-4
+    returns-2
+    word-requires
+    returns-3
+    mul-value
+    shared-slice-read-value
+    fits-sort-requires
+    returns-4
+    add-t12
+    settle-requires-3
+    same-length-5
+    same-length-6
+    returns-5)

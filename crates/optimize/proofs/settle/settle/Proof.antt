@@ -1,0 +1,88 @@
+-- A node stays, is swapped, or a new constant is made for it.
+-- Assumes nothing.
+use borrow.Author.Needs.{needs}
+use native.Mathlib.Omega.{arith}
+use Rattle.optimize.proofs.Steps.{settled-stays, settled-swap, settled-make}
+use Rattle.optimize.proofs.settle.settle.Statement.{statement}
+use Rattle.optimize.proofs.settle.settle.Tie as tie
+
+enum-told : tie.Need-enum-told
+enum-told c = search needs
+
+put-mark-requires : tie.Need-put-mark-requires
+put-mark-requires c κs = search needs
+
+enum-known-fold : tie.Need-enum-known-fold
+enum-known-fold c = search needs
+
+put-mark-requires-2 : tie.Need-put-mark-requires-2
+put-mark-requires-2 c κs = search needs
+
+enum-known-fold-2 : tie.Need-enum-known-fold-2
+enum-known-fold-2 c = search needs
+
+node-count-requires : tie.Need-node-count-requires
+node-count-requires c κs = search needs
+
+add-at : tie.Need-add-at
+add-at c = search needs
+
+add-at-2 : tie.Need-add-at-2
+add-at-2 c = search needs
+
+push-requires : tie.Need-push-requires
+push-requires c κs = search needs
+
+put-mark-requires-3 : tie.Need-put-mark-requires-3
+put-mark-requires-3 c κs = search needs
+
+same-length : tie.Need-same-length
+same-length c = search needs
+
+returns : tie.Need-returns
+returns c =
+    let at-enum-told = c .before .before .before .before in
+    λ h inputs replies ways. settled-stays h _ inputs replies _ _ _ _ ways _ _ (at-enum-told .enum-told .given .1) (c .before .before .put-mark .ensures h inputs replies _ _)
+
+same-length-2 : tie.Need-same-length-2
+same-length-2 c = search needs
+
+returns-2 : tie.Need-returns-2
+returns-2 c =
+    let at-fold = c .before .before .before .before .before in
+    λ h inputs replies ways. settled-swap h _ inputs replies _ _ _ _ ways _ _ _ (at-fold .fold .given .1) (c .before .before .put-mark2 .ensures h inputs replies _ _)
+
+same-length-3 : tie.Need-same-length-3
+same-length-3 c = search needs
+
+same-length-4 : tie.Need-same-length-4
+same-length-4 c = search needs
+
+returns-3 : tie.Need-returns-3
+returns-3 c =
+    let at-push = c .before .before .before .before .before .before in
+    let at-node-count = at-push .before .before .before in
+    let at-fold2 = at-node-count .before .before in
+    λ h inputs replies ways. settled-make h _ inputs replies _ _ _ _ ways _ _ _ _ _ _ _ (at-fold2 .fold2 .given .1) (at-node-count .node-count .ensures) (at-push .push .ensures h inputs replies _) (c .before .before .put-mark3 .ensures h inputs replies _ _)
+
+pub settle-spec : {M : Type 1} → statement M
+settle-spec =
+    tie.close
+    (tie.spec
+    enum-told
+    put-mark-requires
+    enum-known-fold
+    put-mark-requires-2
+    enum-known-fold-2
+    node-count-requires
+    add-at
+    add-at-2
+    push-requires
+    put-mark-requires-3
+    same-length
+    returns
+    same-length-2
+    returns-2
+    same-length-3
+    same-length-4
+    returns-3)

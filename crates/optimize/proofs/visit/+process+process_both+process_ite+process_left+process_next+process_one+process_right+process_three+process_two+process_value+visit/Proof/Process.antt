@@ -1,0 +1,266 @@
+-- `process`: by its form: each callee's ensures is the rules' step of that form.
+-- Assumes nothing.
+use mathlib.Core.Path.{ap, sym, _∙_}
+use Prim.Native.Nat.{ℕ}
+use native.Mathlib.Omega.{arith}
+use borrow.Author.Needs.{needs}
+use Rattle.tables.specs.NodeAnswers.{kindIs}
+use Rattle.optimize.specs.declared.visit.Form.{Form}
+use Rattle.optimize.specs.View.{view, waysIn}
+use Rattle.optimize.specs.Process.{formOf, byForm}
+use Rattle.optimize.proofs.Forms.{process-is, before-is}
+use Rattle.optimize.proofs.Keeps.{ready, ready-room}
+use Rattle.optimize.proofs.buffers.kind_at.Reads as kind-at-reads
+use Rattle.optimize.proofs.buffers.word.Reads as word-reads
+use Rattle.optimize.proofs.visit.form_of.Reads as form-of-reads
+use Rattle.optimize.proofs.settle.settle_const.Reads as settle-const-reads
+use Rattle.optimize.proofs.settle.settle.Reads as settle-reads
+use Rattle.optimize.proofs.input.take_input.Reads as take-input-reads
+use Rattle.optimize.proofs.visit.process_one.Reads as process-one
+use Rattle.optimize.proofs.visit.process_two.Reads as process-two
+use Rattle.optimize.proofs.visit.process_three.Reads as process-three
+use Rattle.optimize.proofs.visit.process_ite.Reads as process-ite
+use Rattle.optimize.proofs.visit.process_next.Reads as process-next
+use Rattle.optimize.proofs.visit.process.Reads as process
+use Rattle.optimize.proofs.visit.+process+process_both+process_ite+process_left+process_next+process_one+process_right+process_three+process_two+process_value+visit.Lts-process as lts
+use Rattle.optimize.proofs.visit.+process+process_both+process_ite+process_left+process_next+process_one+process_right+process_three+process_two+process_value+visit.Proof.Measures.{process-at, process-one-below, process-two-below, process-three-below, process-ite-below, process-next-below}
+
+module _ (t : ℕ) where
+  abbrev claims : lts.Claims
+  claims = (kind-at-reads.Asked, kind-at-reads.Learnt, word-reads.Asked, word-reads.Learnt, form-of-reads.Asked, form-of-reads.Learnt, settle-const-reads.Asked, settle-const-reads.Learnt, settle-reads.Asked, settle-reads.Learnt, take-input-reads.Asked, take-input-reads.Learnt, process-one-below t, process-one.Post, process-two-below t, process-two.Post, process-three-below t, process-three.Post, process-ite-below t, process-ite.Post, process-next-below t, process-next.Post)
+
+  kind-at-requires : lts.Need-kind-at-requires claims (process-at t) process.Post
+  kind-at-requires c κs =
+      let start = c .before .before .before .before .before .before in
+      omega (arith, start .pre .1 .0 .whole, (start .pre .1 .1 .0))
+
+  word-requires : lts.Need-word-requires claims (process-at t) process.Post
+  word-requires c κs =
+      let start = c .before .before .before .before .before .before .before in
+      omega (arith, start .pre .1 .0 .whole, (start .pre .1 .1 .0))
+
+  form-of-requires : lts.Need-form-of-requires claims (process-at t) process.Post
+  form-of-requires c κs = search needs
+
+  enum-told : lts.Need-enum-told claims (process-at t) process.Post
+  enum-told c = search needs
+
+  settle-const-requires : lts.Need-settle-const-requires claims (process-at t) process.Post
+  settle-const-requires c κs =
+      let start = c .before .before .before .before .before .before .before .before .before .before .before .before .before in
+      (ready-room _ _ _ _ _ _ _ _ _ (ready _ _ _ _ _ _ _ _ _ (start .pre .1 .0) (start .pre .1 .1 .0) (start .pre .1 .1 .1)))
+
+  enum-told-2 : lts.Need-enum-told-2 claims (process-at t) process.Post
+  enum-told-2 c = search needs
+
+  settle-requires : lts.Need-settle-requires claims (process-at t) process.Post
+  settle-requires c κs =
+      let start = c .before .before .before .before .before .before .before .before .before .before .before .before .before in
+      let q = (ready-room _ _ _ _ _ _ _ _ _ (ready _ _ _ _ _ _ _ _ _ (start .pre .1 .0) (start .pre .1 .1 .0) (start .pre .1 .1 .1))) in ((omega (arith, q .whole), q .small, q .inside), ((q .room, omega (arith, q .asks)), q .few))
+
+  enum-told-3 : lts.Need-enum-told-3 claims (process-at t) process.Post
+  enum-told-3 c = search needs
+
+  take-input-requires : lts.Need-take-input-requires claims (process-at t) process.Post
+  take-input-requires c κs =
+      let start = c .before .before .before .before .before .before .before .before .before .before .before .before .before in
+      (ready-room _ _ _ _ _ _ _ _ _ (ready _ _ _ _ _ _ _ _ _ (start .pre .1 .0) (start .pre .1 .1 .0) (start .pre .1 .1 .1)))
+
+  enum-told-4 : lts.Need-enum-told-4 claims (process-at t) process.Post
+  enum-told-4 c = search needs
+
+  process-one-requires : lts.Need-process-one-requires claims (process-at t) process.Post
+  process-one-requires c κs =
+      let at-enum-told4 = c .before .before in
+      let at-form-of = at-enum-told4 .before .before in
+      let at-word = at-form-of .before in
+      let at-kind-at = at-word .before in
+      let start = at-kind-at .before .before .before .before .before .before .before in
+      (omega (arith, start .pre .0), ((start .pre .1 .0), ((start .pre .1 .1 .0), ((start .pre .1 .1 .1), (before-is (start .args .given .now) (start .args .node) (start .pre .1 .0 .legal) (start .pre .1 .1 .0) (kindIs (at-kind-at .kind-at .result)) Form.One (at-kind-at .kind-at .ensures) (sym (at-enum-told4 .enum-told4 .given .1) ∙ at-form-of .form-of .ensures ∙ ap (formOf (kindIs (at-kind-at .kind-at .result))) (at-word .word .ensures)))))))
+
+  enum-told-5 : lts.Need-enum-told-5 claims (process-at t) process.Post
+  enum-told-5 c = search needs
+
+  process-two-requires : lts.Need-process-two-requires claims (process-at t) process.Post
+  process-two-requires c κs =
+      let at-enum-told5 = c .before .before in
+      let at-form-of = at-enum-told5 .before .before in
+      let at-word = at-form-of .before in
+      let at-kind-at = at-word .before in
+      let start = at-kind-at .before .before .before .before .before .before .before in
+      let b = (before-is (start .args .given .now) (start .args .node) (start .pre .1 .0 .legal) (start .pre .1 .1 .0) (kindIs (at-kind-at .kind-at .result)) Form.Two (at-kind-at .kind-at .ensures) (sym (at-enum-told5 .enum-told5 .given .1) ∙ at-form-of .form-of .ensures ∙ ap (formOf (kindIs (at-kind-at .kind-at .result))) (at-word .word .ensures))) in (omega (arith, start .pre .0), ((start .pre .1 .0), ((start .pre .1 .1 .0), ((start .pre .1 .1 .1), (b .0, (b .1, ((at-kind-at .kind-at .ensures), (sym (at-enum-told5 .enum-told5 .given .1) ∙ at-form-of .form-of .ensures ∙ ap (formOf (kindIs (at-kind-at .kind-at .result))) (at-word .word .ensures)))))))))
+
+  enum-told-6 : lts.Need-enum-told-6 claims (process-at t) process.Post
+  enum-told-6 c = search needs
+
+  process-three-requires : lts.Need-process-three-requires claims (process-at t) process.Post
+  process-three-requires c κs =
+      let at-enum-told6 = c .before .before in
+      let at-form-of = at-enum-told6 .before .before in
+      let at-word = at-form-of .before in
+      let at-kind-at = at-word .before in
+      let start = at-kind-at .before .before .before .before .before .before .before in
+      let b = (before-is (start .args .given .now) (start .args .node) (start .pre .1 .0 .legal) (start .pre .1 .1 .0) (kindIs (at-kind-at .kind-at .result)) Form.Three (at-kind-at .kind-at .ensures) (sym (at-enum-told6 .enum-told6 .given .1) ∙ at-form-of .form-of .ensures ∙ ap (formOf (kindIs (at-kind-at .kind-at .result))) (at-word .word .ensures))) in (omega (arith, start .pre .0), ((start .pre .1 .0), ((start .pre .1 .1 .0), ((start .pre .1 .1 .1), (b .0, (b .1, b .2))))))
+
+  enum-told-7 : lts.Need-enum-told-7 claims (process-at t) process.Post
+  enum-told-7 c = search needs
+
+  process-ite-requires : lts.Need-process-ite-requires claims (process-at t) process.Post
+  process-ite-requires c κs =
+      let at-enum-told7 = c .before .before in
+      let at-form-of = at-enum-told7 .before .before in
+      let at-word = at-form-of .before in
+      let at-kind-at = at-word .before in
+      let start = at-kind-at .before .before .before .before .before .before .before in
+      let b = (before-is (start .args .given .now) (start .args .node) (start .pre .1 .0 .legal) (start .pre .1 .1 .0) (kindIs (at-kind-at .kind-at .result)) Form.Choice (at-kind-at .kind-at .ensures) (sym (at-enum-told7 .enum-told7 .given .1) ∙ at-form-of .form-of .ensures ∙ ap (formOf (kindIs (at-kind-at .kind-at .result))) (at-word .word .ensures))) in (omega (arith, start .pre .0), ((start .pre .1 .0), ((start .pre .1 .1 .0), ((start .pre .1 .1 .1), (b .0, (b .1, b .2))))))
+
+  enum-told-8 : lts.Need-enum-told-8 claims (process-at t) process.Post
+  enum-told-8 c = search needs
+
+  process-next-requires : lts.Need-process-next-requires claims (process-at t) process.Post
+  process-next-requires c κs =
+      let at-enum-told8 = c .before .before in
+      let at-form-of = at-enum-told8 .before .before in
+      let at-word = at-form-of .before in
+      let at-kind-at = at-word .before in
+      let start = at-kind-at .before .before .before .before .before .before .before in
+      let b = (before-is (start .args .given .now) (start .args .node) (start .pre .1 .0 .legal) (start .pre .1 .1 .0) (kindIs (at-kind-at .kind-at .result)) Form.Step (at-kind-at .kind-at .ensures) (sym (at-enum-told8 .enum-told8 .given .1) ∙ at-form-of .form-of .ensures ∙ ap (formOf (kindIs (at-kind-at .kind-at .result))) (at-word .word .ensures))) in (omega (arith, start .pre .0), ((start .pre .1 .0), ((start .pre .1 .1 .0), ((start .pre .1 .1 .1), (b .0, b .1)))))
+
+  same-length : lts.Need-same-length claims (process-at t) process.Post
+  same-length c = search needs
+
+  same-length-2 : lts.Need-same-length-2 claims (process-at t) process.Post
+  same-length-2 c = search needs
+
+  returns : lts.Need-returns claims (process-at t) process.Post
+  unfolding byForm
+  returns c =
+      let at-settle-const = c .before .before .before .before in
+      let at-enum-told = at-settle-const .before .before .before in
+      let at-form-of = at-enum-told .before .before in
+      let at-word = at-form-of .before in
+      let at-kind-at = at-word .before in
+      let start = at-kind-at .before .before .before .before .before .before .before in
+      λ h f l. (h, at-settle-const .settle-const .ensures h (start .args .inputs .now) (start .args .replies .now) (waysIn (start .args .dumps .now) (start .args .minimise) (start .args .replies .now)) ∙ process-is (start .args .given .now) (start .args .dumps .now) (start .args .replies .now) (start .args .minimise) f (view h (start .args .given .now) (start .args .inputs .now) (start .args .replies .now) (start .args .result .now) (start .args .scratch .now) (start .args .walk)) (start .args .node) (kindIs (at-kind-at .kind-at .result)) Form.Constant (at-kind-at .kind-at .ensures) (sym (at-enum-told .enum-told .given .1) ∙ at-form-of .form-of .ensures ∙ ap (formOf (kindIs (at-kind-at .kind-at .result))) (at-word .word .ensures)))
+
+  same-length-3 : lts.Need-same-length-3 claims (process-at t) process.Post
+  same-length-3 c = search needs
+
+  same-length-4 : lts.Need-same-length-4 claims (process-at t) process.Post
+  same-length-4 c = search needs
+
+  returns-2 : lts.Need-returns-2 claims (process-at t) process.Post
+  unfolding byForm
+  returns-2 c =
+      let at-settle = c .before .before .before .before in
+      let at-enum-told2 = at-settle .before .before .before in
+      let at-form-of = at-enum-told2 .before .before in
+      let at-word = at-form-of .before in
+      let at-kind-at = at-word .before in
+      let start = at-kind-at .before .before .before .before .before .before .before in
+      λ h f l. (h, at-settle .settle .ensures h (start .args .inputs .now) (start .args .replies .now) (waysIn (start .args .dumps .now) (start .args .minimise) (start .args .replies .now)) ∙ process-is (start .args .given .now) (start .args .dumps .now) (start .args .replies .now) (start .args .minimise) f (view h (start .args .given .now) (start .args .inputs .now) (start .args .replies .now) (start .args .result .now) (start .args .scratch .now) (start .args .walk)) (start .args .node) (kindIs (at-kind-at .kind-at .result)) Form.Given (at-kind-at .kind-at .ensures) (sym (at-enum-told2 .enum-told2 .given .1) ∙ at-form-of .form-of .ensures ∙ ap (formOf (kindIs (at-kind-at .kind-at .result))) (at-word .word .ensures)))
+
+  same-length-5 : lts.Need-same-length-5 claims (process-at t) process.Post
+  same-length-5 c = search needs
+
+  same-length-6 : lts.Need-same-length-6 claims (process-at t) process.Post
+  same-length-6 c = search needs
+
+  returns-3 : lts.Need-returns-3 claims (process-at t) process.Post
+  unfolding byForm
+  returns-3 c =
+      let at-take-input = c .before .before .before .before in
+      let at-enum-told3 = at-take-input .before .before .before in
+      let at-form-of = at-enum-told3 .before .before in
+      let at-word = at-form-of .before in
+      let at-kind-at = at-word .before in
+      let start = at-kind-at .before .before .before .before .before .before .before in
+      λ h f l. let m = at-take-input .take-input .ensures h (start .args .replies .now) (start .args .minimise) in (m .0, m .1 ∙ process-is (start .args .given .now) (start .args .dumps .now) (start .args .replies .now) (start .args .minimise) f (view h (start .args .given .now) (start .args .inputs .now) (start .args .replies .now) (start .args .result .now) (start .args .scratch .now) (start .args .walk)) (start .args .node) (kindIs (at-kind-at .kind-at .result)) Form.Free (at-kind-at .kind-at .ensures) (sym (at-enum-told3 .enum-told3 .given .1) ∙ at-form-of .form-of .ensures ∙ ap (formOf (kindIs (at-kind-at .kind-at .result))) (at-word .word .ensures)))
+
+  same-length-7 : lts.Need-same-length-7 claims (process-at t) process.Post
+  same-length-7 c = search needs
+
+  same-length-8 : lts.Need-same-length-8 claims (process-at t) process.Post
+  same-length-8 c = search needs
+
+  returns-4 : lts.Need-returns-4 claims (process-at t) process.Post
+  unfolding byForm
+  returns-4 c =
+      let at-process-one = c .before .before .before .before in
+      let at-enum-told4 = at-process-one .before .before .before in
+      let at-form-of = at-enum-told4 .before .before in
+      let at-word = at-form-of .before in
+      let at-kind-at = at-word .before in
+      let start = at-kind-at .before .before .before .before .before .before .before in
+      λ h f l. let m = at-process-one .process-one .ensures h f l in (m .0, m .1 ∙ process-is (start .args .given .now) (start .args .dumps .now) (start .args .replies .now) (start .args .minimise) f (view h (start .args .given .now) (start .args .inputs .now) (start .args .replies .now) (start .args .result .now) (start .args .scratch .now) (start .args .walk)) (start .args .node) (kindIs (at-kind-at .kind-at .result)) Form.One (at-kind-at .kind-at .ensures) (sym (at-enum-told4 .enum-told4 .given .1) ∙ at-form-of .form-of .ensures ∙ ap (formOf (kindIs (at-kind-at .kind-at .result))) (at-word .word .ensures)))
+
+  same-length-9 : lts.Need-same-length-9 claims (process-at t) process.Post
+  same-length-9 c = search needs
+
+  same-length-10 : lts.Need-same-length-10 claims (process-at t) process.Post
+  same-length-10 c = search needs
+
+  returns-5 : lts.Need-returns-5 claims (process-at t) process.Post
+  unfolding byForm
+  returns-5 c =
+      let at-process-two = c .before .before .before .before in
+      let at-enum-told5 = at-process-two .before .before .before in
+      let at-form-of = at-enum-told5 .before .before in
+      let at-word = at-form-of .before in
+      let at-kind-at = at-word .before in
+      let start = at-kind-at .before .before .before .before .before .before .before in
+      λ h f l. let m = at-process-two .process-two .ensures h f l in (m .0, m .1 ∙ process-is (start .args .given .now) (start .args .dumps .now) (start .args .replies .now) (start .args .minimise) f (view h (start .args .given .now) (start .args .inputs .now) (start .args .replies .now) (start .args .result .now) (start .args .scratch .now) (start .args .walk)) (start .args .node) (kindIs (at-kind-at .kind-at .result)) Form.Two (at-kind-at .kind-at .ensures) (sym (at-enum-told5 .enum-told5 .given .1) ∙ at-form-of .form-of .ensures ∙ ap (formOf (kindIs (at-kind-at .kind-at .result))) (at-word .word .ensures)))
+
+  same-length-11 : lts.Need-same-length-11 claims (process-at t) process.Post
+  same-length-11 c = search needs
+
+  same-length-12 : lts.Need-same-length-12 claims (process-at t) process.Post
+  same-length-12 c = search needs
+
+  returns-6 : lts.Need-returns-6 claims (process-at t) process.Post
+  unfolding byForm
+  returns-6 c =
+      let at-process-three = c .before .before .before .before in
+      let at-enum-told6 = at-process-three .before .before .before in
+      let at-form-of = at-enum-told6 .before .before in
+      let at-word = at-form-of .before in
+      let at-kind-at = at-word .before in
+      let start = at-kind-at .before .before .before .before .before .before .before in
+      λ h f l. let m = at-process-three .process-three .ensures h f l in (m .0, m .1 ∙ process-is (start .args .given .now) (start .args .dumps .now) (start .args .replies .now) (start .args .minimise) f (view h (start .args .given .now) (start .args .inputs .now) (start .args .replies .now) (start .args .result .now) (start .args .scratch .now) (start .args .walk)) (start .args .node) (kindIs (at-kind-at .kind-at .result)) Form.Three (at-kind-at .kind-at .ensures) (sym (at-enum-told6 .enum-told6 .given .1) ∙ at-form-of .form-of .ensures ∙ ap (formOf (kindIs (at-kind-at .kind-at .result))) (at-word .word .ensures)))
+
+  same-length-13 : lts.Need-same-length-13 claims (process-at t) process.Post
+  same-length-13 c = search needs
+
+  same-length-14 : lts.Need-same-length-14 claims (process-at t) process.Post
+  same-length-14 c = search needs
+
+  returns-7 : lts.Need-returns-7 claims (process-at t) process.Post
+  unfolding byForm
+  returns-7 c =
+      let at-process-ite = c .before .before .before .before in
+      let at-enum-told7 = at-process-ite .before .before .before in
+      let at-form-of = at-enum-told7 .before .before in
+      let at-word = at-form-of .before in
+      let at-kind-at = at-word .before in
+      let start = at-kind-at .before .before .before .before .before .before .before in
+      λ h f l. let m = at-process-ite .process-ite .ensures h f l in (m .0, m .1 ∙ process-is (start .args .given .now) (start .args .dumps .now) (start .args .replies .now) (start .args .minimise) f (view h (start .args .given .now) (start .args .inputs .now) (start .args .replies .now) (start .args .result .now) (start .args .scratch .now) (start .args .walk)) (start .args .node) (kindIs (at-kind-at .kind-at .result)) Form.Choice (at-kind-at .kind-at .ensures) (sym (at-enum-told7 .enum-told7 .given .1) ∙ at-form-of .form-of .ensures ∙ ap (formOf (kindIs (at-kind-at .kind-at .result))) (at-word .word .ensures)))
+
+  same-length-15 : lts.Need-same-length-15 claims (process-at t) process.Post
+  same-length-15 c = search needs
+
+  same-length-16 : lts.Need-same-length-16 claims (process-at t) process.Post
+  same-length-16 c = search needs
+
+  returns-8 : lts.Need-returns-8 claims (process-at t) process.Post
+  unfolding byForm
+  returns-8 c =
+      let at-process-next = c .before .before .before .before in
+      let at-enum-told8 = at-process-next .before .before .before in
+      let at-form-of = at-enum-told8 .before .before in
+      let at-word = at-form-of .before in
+      let at-kind-at = at-word .before in
+      let start = at-kind-at .before .before .before .before .before .before .before in
+      λ h f l. let m = at-process-next .process-next .ensures h f l in (m .0, m .1 ∙ process-is (start .args .given .now) (start .args .dumps .now) (start .args .replies .now) (start .args .minimise) f (view h (start .args .given .now) (start .args .inputs .now) (start .args .replies .now) (start .args .result .now) (start .args .scratch .now) (start .args .walk)) (start .args .node) (kindIs (at-kind-at .kind-at .result)) Form.Step (at-kind-at .kind-at .ensures) (sym (at-enum-told8 .enum-told8 .given .1) ∙ at-form-of .form-of .ensures ∙ ap (formOf (kindIs (at-kind-at .kind-at .result))) (at-word .word .ensures)))
+
+  pub proved : {M : Type 1} → lts.Closed claims (process-at t) process.Post M
+  proved = lts.spec claims (process-at t) process.Post kind-at-requires word-requires form-of-requires enum-told settle-const-requires enum-told-2 settle-requires enum-told-3 take-input-requires enum-told-4 process-one-requires enum-told-5 process-two-requires enum-told-6 process-three-requires enum-told-7 process-ite-requires enum-told-8 process-next-requires same-length same-length-2 returns same-length-3 same-length-4 returns-2 same-length-5 same-length-6 returns-3 same-length-7 same-length-8 returns-4 same-length-9 same-length-10 returns-5 same-length-11 same-length-12 returns-6 same-length-13 same-length-14 returns-7 same-length-15 same-length-16 returns-8

@@ -1,0 +1,5 @@
+pub mod View
+pub mod Folding
+pub mod Process
+pub mod Laid
+pub mod ResultView

@@ -1,0 +1,200 @@
+-- The rules' steps in the code's order, and what its answers are in the rules' terms.
+--     askedOf, solvedOf   the outcome of a question, of a chain of questions
+--     Form, formOf        what a node's visit does, by its kind             byForm   the rules' process by form
+--     oneOf, twoOf, ..    the visits of a node's operands, then what comes after them
+-- Assumes nothing.
+use Prim.Native.Nat.{ℕ, _<_}
+use mathlib.Core.Bool.{Bool, true, false, cond}
+use mathlib.Core.List.{List, [], _∷_}
+use lib.Dec.{eqb}
+use Rattle.rules.specs.Refusal.{Out, refused, done, refuse, _>>=_}
+use Rattle.rules.specs.Table.{Kind, Const, Read, Write, Word, Ult, Ext, Ite, Eq, And, Or, Not, State, Next, Input, Bad, Node, kindOf, with}
+use Rattle.rules.specs.Walk.{St, Mark, fresh, kept, replaced, Held, setRow}
+use Rattle.rules.specs.Fold.{Fold, stays, swap, make, constOf, foldConst}
+use Rattle.rules.specs.Questions.{quiet, askOr, askBit, askIte}
+use Rattle.rules.specs.Visit.{Ways, Branch, left, right, undecided, branch, settle, finish, forward, takeInput, process, visit}
+use Rattle.tables.specs.Refusals.{refusalOf}
+use Rattle.optimize.specs.declared.walk.Walk.{Walk}
+use Rattle.optimize.specs.declared.smt_solver.Asked.{Asked}
+use Rattle.optimize.specs.declared.smt_solver.Solved.{Solved}
+use Rattle.optimize.specs.declared.visit.Form.{Form}
+use Rattle.optimize.specs.View.{countOf, wordOf, nodeOf, tableOf, view, foldIs}
+use Rattle.optimize.specs.Folding.{foldTwo, foldOne, asksBit}
+
+-- ---- questions
+unfoldable pub askedOf : List Held → List ℕ → List ℕ → List ℕ → Asked → List ℕ → List ℕ → Out (St × ℕ)
+askedOf h g inputs replies (Asked.Reply w a) R S = done (view h g inputs replies R S w, a)
+askedOf h g inputs replies (Asked.Refused r) R S = refused (refusalOf r)
+
+unfoldable pub solvedOf : List Held → List ℕ → List ℕ → List ℕ → Solved → List ℕ → List ℕ → Out (St × Fold)
+solvedOf h g inputs replies (Solved.Go w f) R S = done (view h g inputs replies R S w, foldIs f)
+solvedOf h g inputs replies (Solved.Refused r) R S = refused (refusalOf r)
+
+abbrev pub isStays : Fold → Bool
+isStays stays = true
+isStays (swap r) = false
+isStays (make s x) = false
+
+-- one more question, where those before it had no yes
+unfoldable pub thenAskAt : ℕ → ℕ → ℕ → ℕ → Fold → Fold → St → Out (St × Fold)
+thenAskAt count q x y f stays σ = askOr count q x y f quiet σ
+thenAskAt count q x y f (swap r) σ = done (σ, swap r)
+thenAskAt count q x y f (make s v) σ = done (σ, make s v)
+
+abbrev pub thenAsk : ℕ → ℕ → ℕ → ℕ → Fold → Out (St × Fold) → Out (St × Fold)
+thenAsk count q x y f o = o >>= λ p. thenAskAt count q x y f (p .1) (p .0)
+
+-- ---- what a visit does with a node, by its kind and its word b
+unfoldable pub formOf : Kind → ℕ → Form
+formOf Const b = Form.Constant
+formOf Read b = Form.Two
+formOf Write b = Form.Three
+formOf (Word op) b = Form.Two
+formOf Ult b = Form.Two
+formOf Ext b = Form.One
+formOf Ite b = Form.Choice
+formOf Eq b = Form.Two
+formOf And b = Form.Two
+formOf Or b = Form.Two
+formOf Not b = Form.One
+formOf State b = cond (eqb b 1) Form.One Form.Free
+formOf Next b = Form.Step
+formOf Input b = Form.Given
+formOf Bad b = Form.One
+
+abbrev pub isRead : Kind → Bool
+isRead Const = false
+isRead Read = true
+isRead Write = false
+isRead (Word op) = false
+isRead Ult = false
+isRead Ext = false
+isRead Ite = false
+isRead Eq = false
+isRead And = false
+isRead Or = false
+isRead Not = false
+isRead State = false
+isRead Next = false
+isRead Input = false
+isRead Bad = false
+
+abbrev pub hasReplacement : Mark → Bool
+hasReplacement fresh = false
+hasReplacement kept = false
+hasReplacement (replaced r) = true
+
+module _ (g : List ℕ) (ways : Ways) where
+  -- settle what the questions gave
+  abbrev pub settleThen : ℕ → Out (St × Fold) → Out (St × ℕ)
+  settleThen k o = o >>= λ p. settle (tableOf g) ways k (p .0) (p .1)
+
+  -- the questions of a node that is asked about as a bit, or none
+  abbrev pub bitOf : ℕ → Bool → St → Out (St × Fold)
+  bitOf k b = cond b (askBit (ways .replyCount) (countOf g) k quiet) quiet
+
+  -- after the only operand was visited and put into the row
+  abbrev pub afterOne : Kind → St → ℕ → ℕ → Out (St × ℕ)
+  afterOne K σ k x = settle (tableOf g) ways k σ (foldOne K (countOf g) (wordOf g k 1) (constOf (σ .rows) x))
+
+  -- after two operands of a node that is no Read were visited and put into its row
+  abbrev pub foldedTwo : Kind → St → ℕ → ℕ → ℕ → Out (St × ℕ)
+  foldedTwo K σ k x y =
+      finish (tableOf g) ways k σ (foldTwo K (countOf g) (wordOf g k 1) x y (constOf (σ .rows) x) (constOf (σ .rows) y)) (bitOf k (asksBit K (wordOf g k 1)))
+
+  unfoldable pub afterTwo : Kind → St → ℕ → ℕ → ℕ → Out (St × ℕ)
+  afterTwo K σ k x y = elim (isRead K) [ true ↦ forward (tableOf g) ways k σ x (constOf (σ .rows) y) | false ↦ foldedTwo K σ k x y ]
+
+  -- after all three operands of an Ite
+  abbrev pub afterIte : St → ℕ → ℕ → ℕ → ℕ → Out (St × ℕ)
+  afterIte σ k x y z = finish (tableOf g) ways k σ stays (askIte (ways .replyCount) (countOf g) (wordOf g k 1) k x y z)
+
+  abbrev pub takeOf : St → ℕ → Out (St × ℕ)
+  takeOf σ k = takeInput (tableOf g) ways σ k (nodeOf g k) (σ .inputs)
+
+  abbrev pub constOut : St → ℕ → Out (St × ℕ)
+  constOut σ k = settle (tableOf g) ways k σ (foldConst (countOf g) (wordOf g k 1) (wordOf g k 2))
+
+  module _ (f : ℕ) where
+    abbrev pub visitOf : St → ℕ → Out (St × ℕ)
+    visitOf σ k = visit (tableOf g) ways f σ k
+
+    abbrev pub processOf : St → ℕ → Out (St × ℕ)
+    processOf σ k = process (tableOf g) ways (visit (tableOf g) ways f) (kindOf (wordOf g k 0)) σ k (nodeOf g k)
+
+    abbrev pub oneOf : Kind → St → ℕ → Out (St × ℕ)
+    oneOf K σ k = do
+      (σ₁, x) ← visitOf σ (wordOf g k 2)
+      afterOne K (setRow σ₁ k (with (nodeOf g k) x (wordOf g k 3) (wordOf g k 4))) k x
+
+    abbrev pub twoOf : Kind → St → ℕ → Out (St × ℕ)
+    twoOf K σ k = do
+      (σ₁, x) ← visitOf σ (wordOf g k 2)
+      (σ₂, y) ← visitOf σ₁ (wordOf g k 3)
+      afterTwo K (setRow σ₂ k (with (nodeOf g k) x y (wordOf g k 4))) k x y
+
+    abbrev pub threeOf : St → ℕ → Out (St × ℕ)
+    threeOf σ k = do
+      (σ₁, x) ← visitOf σ (wordOf g k 2)
+      (σ₂, y) ← visitOf σ₁ (wordOf g k 3)
+      (σ₃, z) ← visitOf σ₂ (wordOf g k 4)
+      settle (tableOf g) ways k (setRow σ₃ k (with (nodeOf g k) x y z)) stays
+
+    -- the chosen branch of an Ite, whose condition became x, replaces it
+    abbrev pub leftOf : ℕ → St → ℕ → Out (St × ℕ)
+    leftOf x σ k = do
+      (σ₁, y) ← visitOf σ (wordOf g k 3)
+      settle (tableOf g) ways k (setRow σ₁ k (with (nodeOf g k) x y (wordOf g k 4))) (swap y)
+
+    abbrev pub rightOf : ℕ → St → ℕ → Out (St × ℕ)
+    rightOf x σ k = do
+      (σ₁, z) ← visitOf σ (wordOf g k 4)
+      settle (tableOf g) ways k (setRow σ₁ k (with (nodeOf g k) x (wordOf g k 3) z)) (swap z)
+
+    abbrev pub bothOf : ℕ → St → ℕ → Out (St × ℕ)
+    bothOf x σ k = do
+      (σ₁, y) ← visitOf σ (wordOf g k 3)
+      (σ₂, z) ← visitOf σ₁ (wordOf g k 4)
+      afterIte (setRow σ₂ k (with (nodeOf g k) x y z)) k x y z
+
+    unfoldable pub chosenOf : Branch → ℕ → St → ℕ → Out (St × ℕ)
+    chosenOf left x σ k = leftOf x σ k
+    chosenOf right x σ k = rightOf x σ k
+    chosenOf undecided x σ k = bothOf x σ k
+
+    abbrev pub iteOf : St → ℕ → Out (St × ℕ)
+    iteOf σ k = do
+      (σ₁, x) ← visitOf σ (wordOf g k 2)
+      chosenOf (branch (constOf (σ₁ .rows) x)) x σ₁ k
+
+    -- a Next's first word is never rewritten
+    abbrev pub valueOf : St → ℕ → Out (St × ℕ)
+    valueOf σ k = do
+      (σ₁, y) ← visitOf σ (wordOf g k 3)
+      settle (tableOf g) ways k (setRow σ₁ k (with (nodeOf g k) (wordOf g k 2) y (wordOf g k 4))) stays
+
+    abbrev pub stepOf : St → ℕ → Out (St × ℕ)
+    stepOf σ k = do
+      (σ₁, x) ← visitOf σ (wordOf g k 2)
+      elim (hasReplacement (σ₁ .mark (wordOf g k 2))) [ true ↦ refuse 9 1 k | false ↦ valueOf σ₁ k ]
+
+    unfoldable pub byForm : Form → Kind → St → ℕ → Out (St × ℕ)
+    byForm Form.Constant K σ k = constOut σ k
+    byForm Form.Given K σ k = settle (tableOf g) ways k σ stays
+    byForm Form.Free K σ k = takeOf σ k
+    byForm Form.One K σ k = oneOf K σ k
+    byForm Form.Two K σ k = twoOf K σ k
+    byForm Form.Three K σ k = threeOf σ k
+    byForm Form.Choice K σ k = iteOf σ k
+    byForm Form.Step K σ k = stepOf σ k
+
+-- the operands of a form that stand before their node
+abbrev pub Before : Form → List ℕ → ℕ → Type 0
+Before Form.Constant g k = Unit
+Before Form.Given g k = Unit
+Before Form.Free g k = Unit
+Before Form.One g k = wordOf g k 2 < k
+Before Form.Two g k = (wordOf g k 2 < k) × (wordOf g k 3 < k)
+Before Form.Three g k = (wordOf g k 2 < k) × (wordOf g k 3 < k) × (wordOf g k 4 < k)
+Before Form.Choice g k = (wordOf g k 2 < k) × (wordOf g k 3 < k) × (wordOf g k 4 < k)
+Before Form.Step g k = (wordOf g k 2 < k) × (wordOf g k 3 < k)

@@ -1,0 +1,132 @@
+// The given words and the two lent buffers, word by word: rows, constants and marks.
+use crate::fold::Constant;
+use crate::walk::Walk;
+use tables::node::CodedKind;
+use tables::node::NodeKind;
+ghost use Prim.Native.Nat.{ℕ, _+_, _*_, _<_, _≤_};
+ghost use mathlib.Core.Path.{_≡_};
+ghost use mathlib.Core.List.{List};
+ghost use lib.ListN.{length};
+ghost use Rattle.rules.specs.Table.{kindOf, with};
+ghost use Rattle.rules.specs.Walk.{Held, setRow, setMark, addConst};
+ghost use Rattle.rules.specs.Fold.{constOf};
+ghost use Rattle.tables.specs.NodeAnswers.{kindIs};
+ghost use Rattle.optimize.specs.View.{constantIs, countOf, wordOf, nodeOf, rowsOf, markBy, view};
+ghost use Rattle.optimize.specs.declared.walk.Walk.{Walk};
+
+pub(crate) fn number(x: u64) -> usize
+    ensures { λ r. ⌜ r ≡ x ⌝ }
+{
+    x as usize
+}
+
+pub(crate) fn wide(x: usize) -> u64
+    ensures { λ r. ⌜ r ≡ x ⌝ }
+{
+    x as u64
+}
+
+// How many nodes the table has.
+pub(crate) fn node_count(given: &[u64]) -> usize
+    requires { ⌜ 0 < length (now given) ⌝ }
+    ensures { λ r. ⌜ r ≡ countOf (now (given .entry)) ⌝ }
+{
+    number(given[0])
+}
+
+// Word `k` of a node, from 0.
+pub(crate) fn word(table: &[u64], node: usize, k: usize) -> u64
+    requires { ⌜ 1 + 6 * node + k < length (now table) ⌝ }
+    ensures { λ r. ⌜ r ≡ wordOf (now (table .entry)) node k ⌝ }
+{
+    table[1 + 6 * node + k]
+}
+
+// Word `k` of a node as the number of a node.
+pub(crate) fn operand(table: &[u64], node: usize, k: usize) -> usize
+    requires { ⌜ 1 + 6 * node + k < length (now table) ⌝ }
+    ensures { λ r. ⌜ r ≡ wordOf (now (table .entry)) node k ⌝ }
+{
+    number(word(table, node, k))
+}
+
+// A node's kind; a code that names none reads as Input.
+pub(crate) fn kind_at(given: &[u64], node: usize) -> NodeKind
+    requires { ⌜ 1 + 6 * node < length (now given) ⌝ }
+    ensures { λ r. ⌜ kindIs r ≡ kindOf (wordOf (now (given .entry)) node 0) ⌝ }
+{
+    match NodeKind::from_code(word(given, node, 0)) {
+        CodedKind::Known(kind) => kind,
+        CodedKind::Unknown => NodeKind::Input,
+    }
+}
+
+// The number of the constant that stands at `at`, if one does.
+pub(crate) fn get_constant(given: &[u64], result: &[u64], made: usize, at: usize) -> Constant
+    requires { ⌜ (0 < length (now given)) × (countOf (now given) ≤ 4096) ⌝ }
+    requires { ⌜ 22 * countOf (now given) + 22 ≤ length (now result) ⌝ }
+    requires { ⌜ made ≤ countOf (now given) ⌝ }
+    ensures { λ r. ⌜ constantIs r ≡ constOf (rowsOf (countOf (now (given .entry))) made (now (result .entry))) at ⌝ }
+{
+    let n = node_count(given);
+    if at < n {
+        if word(result, at, 0) == 1 {
+            return Constant::Imm(word(result, at, 2));
+        }
+        return Constant::None;
+    }
+    let j = at - n;
+    if j < 2 + made {
+        return Constant::Imm(result[2 + 6 * n + 2 * j + 1]);
+    }
+    Constant::None
+}
+
+// A new constant after those made.
+pub(crate) fn push(given: &[u64], result: &mut [u64], walk: Walk, sort: u64, value: u64) -> Walk
+    requires { ⌜ (0 < length (now given)) × (countOf (now given) ≤ 4096) ⌝ }
+    requires { ⌜ 22 * countOf (now given) + 22 ≤ length (now result) ⌝ }
+    requires { ⌜ walk .made < countOf (now given) ⌝ }
+    ensures { λ r. ⌜ ((h : List Held) (inputs replies S : List ℕ) → view h (now (given .entry)) inputs replies (now (result .exit)) S r ≡ addConst (view h (now (given .entry)) inputs replies (now (result .entry)) S walk) (countOf (now (given .entry)) + 2 + walk .made) sort value) ⌝ }
+{
+    let n = node_count(given);
+    let made = walk.made;
+    let at = 2 + 6 * n + 2 * (2 + made);
+    result[at] = sort;
+    result[at + 1] = value;
+    Walk {
+        made: made + 1,
+        taken: walk.taken,
+        used: walk.used,
+        asked: walk.asked,
+        looked: walk.looked,
+        passed: walk.passed,
+    }
+}
+
+// A node's row, with the operands that it is left with.
+pub(crate) fn put_row(given: &[u64], result: &mut [u64], node: usize, a: usize, b: usize, c: usize)
+    requires { ⌜ (node < countOf (now given)) × (countOf (now given) ≤ 4096) ⌝ }
+    requires { ⌜ 1 + 6 * countOf (now given) ≤ length (now given) ⌝ }
+    requires { ⌜ 1 + 6 * countOf (now given) ≤ length (now result) ⌝ }
+    ensures { λ _. ⌜ ((h : List Held) (inputs replies S : List ℕ) (w : Walk) → view h (now (given .entry)) inputs replies (now (result .exit)) S w ≡ setRow (view h (now (given .entry)) inputs replies (now (result .entry)) S w) node (with (nodeOf (now (given .entry)) node) a b c)) ⌝ }
+{
+    let at = 1 + 6 * node;
+    result[at] = given[at];
+    result[at + 1] = given[at + 1];
+    result[at + 2] = wide(a);
+    result[at + 3] = wide(b);
+    result[at + 4] = wide(c);
+    result[at + 5] = given[at + 5];
+}
+
+// The mark and the replacement of a node.
+pub(crate) fn put_mark(given: &[u64], scratch: &mut [u64], node: usize, mark: u64, by: usize)
+    requires { ⌜ (0 < length (now given)) × (node < countOf (now given)) ⌝ }
+    requires { ⌜ 2 * countOf (now given) ≤ length (now scratch) ⌝ }
+    ensures { λ _. ⌜ ((h : List Held) (inputs replies R : List ℕ) (w : Walk) → view h (now (given .entry)) inputs replies R (now (scratch .exit)) w ≡ setMark (view h (now (given .entry)) inputs replies R (now (scratch .entry)) w) node (markBy mark by)) ⌝ }
+{
+    let n = node_count(given);
+    scratch[node] = mark;
+    scratch[n + node] = wide(by);
+}

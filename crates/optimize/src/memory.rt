@@ -1,0 +1,101 @@
+// The walk down the Writes of a Read at a constant address: find_in_memory of optimize.rs.
+use crate::buffers::get_constant;
+use crate::buffers::number;
+use crate::buffers::word;
+use crate::fold::Constant;
+ghost use mathlib.Core.Path.{_≡_};
+ghost use Prim.Native.Nat.{_+_, _*_, _<_, _≤_};
+ghost use lib.ListN.{length};
+ghost use Rattle.btor.specs.Operators.{Reading};
+ghost use Rattle.rules.specs.Memory.{find};
+ghost use Rattle.optimize.specs.View.{countOf, rowsOf};
+ghost use Rattle.optimize.specs.Folding.{searchIs, Falls, LooksAt};
+
+// The value of the first Write that holds the address.
+pub(crate) enum Found {
+    Value(usize),
+    Nothing,
+}
+
+// What a search found, how many Writes it looked at, and how many unsettled ones it passed.
+pub(crate) struct Search {
+    pub(crate) found: Found,
+    pub(crate) looked: usize,
+    pub(crate) passed: usize,
+}
+
+// One place of the chain: no Write; the Write that holds the address, with its value; another Write, with its memory.
+pub(crate) enum Look {
+    End,
+    Hit(usize),
+    Settled(usize),
+    Unsettled(usize),
+}
+
+// Looks at one place of the chain. A Write whose address is no constant is unsettled.
+fn look_at(given: &[u64], result: &[u64], made: usize, at: usize, address: u64) -> Look
+    requires { ⌜ (0 < length (now given)) × (countOf (now given) ≤ 4096) ⌝ }
+    requires { ⌜ 22 * countOf (now given) + 22 ≤ length (now result) ⌝ }
+    requires { ⌜ made ≤ countOf (now given) ⌝ }
+    requires { ⌜ Falls (countOf (now given)) made (now result) ⌝ }
+    ensures { λ r. ⌜ LooksAt (countOf (now (given .entry))) made (now (result .entry)) at address r ⌝ }
+{
+    let n = number(given[0]);
+    if n <= at {
+        return Look::End;
+    }
+    if word(result, at, 0) != 3 {
+        return Look::End;
+    }
+    let next = number(word(result, at, 2));
+    let Constant::Imm(imm) = get_constant(given, result, made, number(word(result, at, 3))) else {
+        return Look::Unsettled(next);
+    };
+    if imm == address {
+        Look::Hit(number(word(result, at, 4)))
+    } else {
+        Look::Settled(next)
+    }
+}
+
+// Walks down the Writes to the first that holds the address; any other Write is passed, also an unsettled one.
+pub(crate) fn find_in_memory(
+    given: &[u64],
+    result: &[u64],
+    made: usize,
+    memory: usize,
+    address: u64,
+) -> Search
+    requires { ⌜ (0 < length (now given)) × (countOf (now given) ≤ 4096) ⌝ }
+    requires { ⌜ 22 * countOf (now given) + 22 ≤ length (now result) ⌝ }
+    requires { ⌜ made ≤ countOf (now given) ⌝ }
+    requires { ⌜ Falls (countOf (now given)) made (now result) ⌝ }
+    ensures { λ r. ⌜ searchIs r ≡ find Reading.rust (countOf (now (given .entry))) (rowsOf (countOf (now (given .entry))) made (now (result .entry))) address memory ⌝ }
+    ensures { λ r. ⌜ (r .looked ≤ countOf (now (given .entry))) × (r .passed ≤ r .looked) ⌝ }
+{
+    let mut at = memory;
+    let mut looked = 0;
+    let mut passed = 0;
+    let found = loop {
+        match look_at(given, result, made, at, address) {
+            Look::End => break Found::Nothing,
+            Look::Hit(value) => {
+                looked += 1; // the hit is counted
+                break Found::Value(value);
+            }
+            Look::Settled(next) => {
+                at = next;
+            }
+            Look::Unsettled(next) => {
+                passed += 1;
+                at = next;
+            }
+        }
+        looked += 1;
+    };
+    Search {
+        found,
+        looked,
+        passed,
+    }
+}
