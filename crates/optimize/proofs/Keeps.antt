@@ -108,7 +108,7 @@ module _ (g dumps inputs replies : List ℕ) (minimise : Bool) (R S Q T : List �
   unfolding view
   made-kept = rw (table-length g) at (came .went .few)
 
-  asked-kept : w′ .asked + unpaid (λ k. 3) (countOf g) (markOf (countOf g) T) ≤ w .asked + unpaid (λ k. 3) (countOf g) (markOf (countOf g) S)
+  pub asked-kept : w′ .asked + unpaid (λ k. 3) (countOf g) (markOf (countOf g) T) ≤ w .asked + unpaid (λ k. 3) (countOf g) (markOf (countOf g) S)
   unfolding view
   asked-kept =
       let s = rw (table-length g) at (came .went .asks) in

@@ -17,3 +17,15 @@ pub mod BareLaws
 pub mod ResultCases
 pub mod Given
 pub mod Judged
+pub mod Begins
+pub mod Entries
+pub mod Begun
+pub mod RunLaws
+pub mod EndLaws
+pub mod BadLaws
+pub mod BadsJoined
+pub mod LastQuestion
+pub mod Copied
+pub mod OnceJoined
+pub mod RunJoined
+pub mod EntryLaws

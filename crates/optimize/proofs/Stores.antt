@@ -9,7 +9,7 @@ use native.Mathlib.Numerals.{add-one}
 use native.Mathlib.Omega.{arith}
 use lib.ListN.{length, getD, drop, set, length-set}
 use lib.Dec.{eqb}
-use lib.Seq.{getD-set-same, getD-set-other}
+use lib.Seq.{getD-set-same, getD-set-other, drop-set-lt}
 use Rattle.rules.specs.Lists.{All}
 use Rattle.rules.specs.Table.{Kind, Const, Input, Node, kinds, kindOf, kindCode, with, is}
 use Rattle.rules.specs.Walk.{Held, setRow, setMark, addConst}
@@ -65,6 +65,10 @@ module _ (h : List Held) (g inputs replies R S : List ℕ) (w : Walk) where
       let here : nodeOf Q k ≡ with (nodeOf g k) a b c = cc in
       rw (rows-put (countOf g) (w .made) R Q k (with (nodeOf g k) a b c) l (λ i d. six-other R (1 + 6 * k) u v x y z q i (λ a′ b′. d (omega arith) (omega arith))) here)
 
+-- two stores below a place leave what stands from there on
+pub two-sets : (n : ℕ) (S : List ℕ) (i j x y : ℕ) → i < n → j < n → drop n (set (set S i x) j y) ≡ drop n S
+two-sets n S i j x y a b = drop-set-lt n (set S i x) j y b ∙ drop-set-lt n S i x a
+
 -- ---- constants
 -- a kind has Const's code only at code 1
 abbrev NoConst : Kind → Type 0
@@ -81,20 +85,20 @@ const-code (suc zero) h = absurd (h refl)
 const-code (suc (suc c)) h =
     const-later c (drop 1 kinds) (refl, (refl, (refl, (refl, (refl, (refl, (refl, (refl, (refl, (refl, (refl, (refl, (refl, (refl, (refl, (refl, (refl, (refl, (refl, (refl, (refl, tt)))))))))))))))))))))
 
-no-const : (c : ℕ) → (c ≡ 1 → ⊥) → (nd : Node) → nd .kind ≡ kindOf c → is Const nd ≡ false
+pub no-const : (c : ℕ) → (c ≡ 1 → ⊥) → (nd : Node) → nd .kind ≡ kindOf c → is Const nd ≡ false
 no-const c h nd e = ap (λ K. eqb (kindCode K) 1) e ∙ const-code c h
 
-is-const : (c : ℕ) → c ≡ 1 → (nd : Node) → nd .kind ≡ kindOf c → is Const nd ≡ true
+pub is-const : (c : ℕ) → c ≡ 1 → (nd : Node) → nd .kind ≡ kindOf c → is Const nd ≡ true
 is-const c e nd d = ap (λ K. eqb (kindCode K) 1) (d ∙ ap kindOf e)
 
 -- the number of a row that is a constant
-abbrev constAs : Node → Option ℕ
+abbrev pub constAs : Node → Option ℕ
 constAs nd = elim (is Const nd) [ true ↦ some (nd .a) | false ↦ none ]
 
-const-yes : (nd : Node) → is Const nd ≡ true → some (nd .a) ≡ constAs nd
+pub const-yes : (nd : Node) → is Const nd ≡ true → some (nd .a) ≡ constAs nd
 const-yes nd e = sym (ap (λ b. elim b [ true ↦ some (nd .a) | false ↦ none ]) e)
 
-const-not : (nd : Node) → is Const nd ≡ false → none ≡ constAs nd
+pub const-not : (nd : Node) → is Const nd ≡ false → none ≡ constAs nd
 const-not nd e = sym (ap (λ b. elim b [ true ↦ some (nd .a) | false ↦ none ]) e)
 
 module _ (n m : ℕ) (R : List ℕ) (at : ℕ) where

@@ -3,3 +3,9 @@ pub mod Folding
 pub mod Process
 pub mod Laid
 pub mod ResultView
+pub mod Lists
+pub mod Bads
+pub mod Ending
+pub mod Runs
+pub mod LastQuestion
+pub mod Entries

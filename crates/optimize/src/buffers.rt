@@ -6,7 +6,7 @@ use tables::node::NodeKind;
 ghost use Prim.Native.Nat.{ℕ, _+_, _*_, _<_, _≤_};
 ghost use mathlib.Core.Path.{_≡_};
 ghost use mathlib.Core.List.{List};
-ghost use lib.ListN.{length};
+ghost use lib.ListN.{length, drop};
 ghost use Rattle.rules.specs.Table.{kindOf, with};
 ghost use Rattle.rules.specs.Walk.{Held, setRow, setMark, addConst};
 ghost use Rattle.rules.specs.Fold.{constOf};
@@ -125,6 +125,7 @@ pub(crate) fn put_mark(given: &[u64], scratch: &mut [u64], node: usize, mark: u6
     requires { ⌜ (0 < length (now given)) × (node < countOf (now given)) ⌝ }
     requires { ⌜ 2 * countOf (now given) ≤ length (now scratch) ⌝ }
     ensures { λ _. ⌜ ((h : List Held) (inputs replies R : List ℕ) (w : Walk) → view h (now (given .entry)) inputs replies R (now (scratch .exit)) w ≡ setMark (view h (now (given .entry)) inputs replies R (now (scratch .entry)) w) node (markBy mark by)) ⌝ }
+    ensures { λ _. ⌜ drop (2 * countOf (now (given .entry))) (now (scratch .exit)) ≡ drop (2 * countOf (now (given .entry))) (now (scratch .entry)) ⌝ }
 {
     let n = node_count(given);
     scratch[node] = mark;

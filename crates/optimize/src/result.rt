@@ -45,7 +45,7 @@ pub(crate) fn clear(buffer: &mut [u64])
 }
 
 // Puts `count` words of `source`, from `start` on, into `target` from `at` on.
-fn copy_words(source: &[u64], start: usize, count: usize, target: &mut [u64], at: usize)
+pub(crate) fn copy_words(source: &[u64], start: usize, count: usize, target: &mut [u64], at: usize)
     requires { ⌜ (start + count ≤ length (now source)) × (at + count ≤ length (now target)) ⌝ }
     ensures { λ _. ⌜ now (target .exit) ≡ paste (now (target .entry)) at (drop start (now (source .entry))) count ⌝ }
 {

@@ -16,3 +16,15 @@ pub(crate) enum Visited {
     Done(Walk, usize),
     Refused(Refusal),
 }
+
+// What a list of visits leaves.
+pub(crate) enum Walked {
+    Done(Walk),
+    Refused(Refusal),
+}
+
+// What an entry point answers: how many words the result has, or why the call was refused.
+pub enum Optimized {
+    Done(usize),
+    Refused(Refusal),
+}

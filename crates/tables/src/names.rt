@@ -169,6 +169,7 @@ fn mark_names(names: &[u8], count: usize, marks: &mut [u8; 4097])
     requires { ⌜ length (now marks) ≡ 4097 ⌝ }
     requires { ⌜ ((k : ℕ) → getD (now marks) k 0 ≡ 0) ⌝ }
     ensures { λ _. ⌜ ((k : ℕ) → getD (now (marks .exit)) k 0 ≡ dumpMark (now (names .entry)) k) ⌝ }
+    ensures { λ _. ⌜ length (now (marks .exit)) ≡ 4097 ⌝ }
 {
     let mut at: usize = 2;
     let mut k: usize = 1;
@@ -184,6 +185,7 @@ fn mark_names(names: &[u8], count: usize, marks: &mut [u8; 4097])
 // Sets mark k to 1 where name k starts with "memory-dump", and every other mark to 0, whatever they were.
 pub fn mark_memory_dumps(names: &[u8], marks: &mut [u8; 4097])
     ensures { λ _. ⌜ ((k : ℕ) → getD (now (marks .exit)) k 0 ≡ dumpMark (now (names .entry)) k) ⌝ }
+    ensures { λ _. ⌜ length (now (marks .exit)) ≡ 4097 ⌝ }
 {
     *marks = [0u8; 4097];
     if let NamesCut::Names(count) = cut_names(names) {

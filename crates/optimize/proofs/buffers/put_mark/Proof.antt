@@ -3,7 +3,9 @@
 use borrow.Author.Needs.{needs}
 use native.Mathlib.Omega.{arith}
 use lib.ListN.{length-set}
-use Rattle.optimize.proofs.Stores.{marked}
+use Prim.Native.Nat.{_+_, _*_}
+use Rattle.optimize.specs.View.{countOf}
+use Rattle.optimize.proofs.Stores.{marked, two-sets}
 use Rattle.optimize.proofs.buffers.put_mark.Statement.{statement}
 use Rattle.optimize.proofs.buffers.put_mark.Tie as tie
 
@@ -32,7 +34,9 @@ same-length : tie.Need-same-length
 same-length c = search needs
 
 returns : tie.Need-returns
-returns c = λ h inputs replies R w. marked h _ inputs replies R _ w _ _ _ _ _ (c .before .node-count .ensures) (c .wide .ensures) (omega arith) (omega arith)
+returns c =
+    let start = c .before .before .before .before in
+    ((λ h inputs replies R w. marked h _ inputs replies R _ w _ _ _ _ _ (c .before .node-count .ensures) (c .wide .ensures) (omega arith) (omega arith)), two-sets (2 * countOf (start .args .given .now)) (start .args .scratch .now) (start .args .node) (c .before .node-count .result + start .args .node) (start .args .mark) (c .wide .result) (omega (arith, c .before .node-count .ensures)) (omega (arith, c .before .node-count .ensures)))
 
 pub put-mark-spec : {M : Type 1} → statement M
 put-mark-spec =

@@ -42,7 +42,7 @@ same-length c = search needs
 returns : tie.Need-returns
 returns c =
     let at-enum-told = c .before .before .before .before in
-    λ h inputs replies ways. settled-stays h _ inputs replies _ _ _ _ ways _ _ (at-enum-told .enum-told .given .1) (c .before .before .put-mark .ensures h inputs replies _ _)
+    λ h inputs replies ways. settled-stays h _ inputs replies _ _ _ _ ways _ _ (at-enum-told .enum-told .given .1) (c .before .before .put-mark .ensures .0 h inputs replies _ _)
 
 same-length-2 : tie.Need-same-length-2
 same-length-2 c = search needs
@@ -50,7 +50,7 @@ same-length-2 c = search needs
 returns-2 : tie.Need-returns-2
 returns-2 c =
     let at-fold = c .before .before .before .before .before in
-    λ h inputs replies ways. settled-swap h _ inputs replies _ _ _ _ ways _ _ _ (at-fold .fold .given .1) (c .before .before .put-mark2 .ensures h inputs replies _ _)
+    λ h inputs replies ways. settled-swap h _ inputs replies _ _ _ _ ways _ _ _ (at-fold .fold .given .1) (c .before .before .put-mark2 .ensures .0 h inputs replies _ _)
 
 same-length-3 : tie.Need-same-length-3
 same-length-3 c = search needs
@@ -63,7 +63,7 @@ returns-3 c =
     let at-push = c .before .before .before .before .before .before in
     let at-node-count = at-push .before .before .before in
     let at-fold2 = at-node-count .before .before in
-    λ h inputs replies ways. settled-make h _ inputs replies _ _ _ _ ways _ _ _ _ _ _ _ (at-fold2 .fold2 .given .1) (at-node-count .node-count .ensures) (at-push .push .ensures h inputs replies _) (c .before .before .put-mark3 .ensures h inputs replies _ _)
+    λ h inputs replies ways. settled-make h _ inputs replies _ _ _ _ ways _ _ _ _ _ _ _ (at-fold2 .fold2 .given .1) (at-node-count .node-count .ensures) (at-push .push .ensures h inputs replies _) (c .before .before .put-mark3 .ensures .0 h inputs replies _ _)
 
 pub settle-spec : {M : Type 1} → statement M
 settle-spec =

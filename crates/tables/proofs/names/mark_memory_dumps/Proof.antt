@@ -25,7 +25,7 @@ returns c = search needs
 
 returns-2 : tie.Need-returns-2
 returns-2 c =
-    λ k. zeros 4097 k ∙ sym (marks-refused _ _ (sym (c .before .before .cut-names .ensures) ∙ ap countOf (c .enum-told .given .1)) k)
+    (λ k. zeros 4097 k ∙ sym (marks-refused _ _ (sym (c .before .before .cut-names .ensures) ∙ ap countOf (c .enum-told .given .1)) k), refl)
 
 pub mark-memory-dumps-spec : {M : Type 1} → statement M
 mark-memory-dumps-spec =

@@ -91,7 +91,7 @@ loop-again c =
     )
 
 returns : tie.Need-returns Inv-loop μ-loop
-returns c = marked-last _ _ (c .before .before .before .pre .0) _ _ (c .loop-test .left) (c .before .loop .inv .4)
+returns c = (marked-last _ _ (c .before .before .before .pre .0) _ _ (c .loop-test .left) (c .before .loop .inv .4), c .before .loop .inv .2)
 
 pub mark-names-spec : {M : Type 1} → statement M
 mark-names-spec =

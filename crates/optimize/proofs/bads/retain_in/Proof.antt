@@ -1,0 +1,45 @@
+-- The judgement is lent the words before the lists.
+-- Assumes nothing.
+use borrow.Author.Needs.{needs}
+use Prim.Native.Nat.{ℕ, _-_}
+use mathlib.Core.Path.{_≡_, refl, sym, ap, _∙_, subst}
+use native.Mathlib.Omega.{arith}
+use lib.ListN.{take, drop}
+use Rattle.optimize.specs.View.{waysIn, view}
+use Rattle.optimize.specs.Laid.{Laid}
+use Rattle.optimize.specs.Bads.{Spare, Retains, retainRule}
+use Rattle.optimize.proofs.Entries.{part-front, part-rest, part-whole, zero-less}
+use Rattle.optimize.proofs.bads.retain_in.Statement.{statement}
+use Rattle.optimize.proofs.bads.retain_in.Tie as tie
+
+sub-should-retain-bad-state : tie.Need-sub-should-retain-bad-state
+sub-should-retain-bad-state c = search needs
+
+part-should-retain-bad-state-start : tie.Need-part-should-retain-bad-state-start
+part-should-retain-bad-state-start c = search needs
+
+part-should-retain-bad-state-end : tie.Need-part-should-retain-bad-state-end
+part-should-retain-bad-state-end c = search needs
+
+should-retain-bad-state-requires : tie.Need-should-retain-bad-state-requires
+should-retain-bad-state-requires c κs =
+    let start = c .before .before .before .before .before .before .before .before in
+    (subst (λ z. Laid (start .args .given .now) (start .args .dumps .now) (start .args .inputs .now) (start .args .replies .now) (start .args .minimise) (start .args .result .now) (take z (start .args .scratch .now)) (start .args .walk)) (zero-less (start .args .at)) (start .pre .0), (start .pre .1 .1, subst (λ z. Spare (start .args .given .now) (take z (start .args .scratch .now)) (start .args .walk) 1) (zero-less (start .args .at)) (start .pre .1 .2)))
+
+same-length : tie.Need-same-length
+same-length c = search needs
+
+same-length-2 : tie.Need-same-length-2
+same-length-2 c =
+    let at-should-retain-bad-state = c .before .before .before .before in
+    let start = at-should-retain-bad-state .before .before .before .before .before .before .before .before .before in
+    part-whole (start .args .scratch .now) (at-should-retain-bad-state .should-retain-bad-state .last .1 .1 .1 .1 .1 .0) (start .args .at) ((start .args .at) - 0) (omega arith) (start .pre .1 .0) (at-should-retain-bad-state .should-retain-bad-state .kept .1 .1 .1 .1 .1 .0)
+
+returns : tie.Need-returns
+returns c =
+    let at-should-retain-bad-state = c .before .before .before .before in
+    let start = at-should-retain-bad-state .before .before .before .before .before .before .before .before .before in
+    (subst (λ z. Retains (start .args .given .now) (start .args .inputs .now) (start .args .replies .now) (start .args .result .now) (take (start .args .at) (start .args .scratch .now)) (start .args .walk) (at-should-retain-bad-state .should-retain-bad-state .result) (at-should-retain-bad-state .should-retain-bad-state .last .1 .1 .1 .1 .0) z (retainRule (start .args .given .now) (waysIn (start .args .dumps .now) (start .args .minimise) (start .args .replies .now)) (start .args .how) (start .args .place) (start .args .bad))) (sym (part-front (start .args .scratch .now) (at-should-retain-bad-state .should-retain-bad-state .last .1 .1 .1 .1 .1 .0) (start .args .at) ((start .args .at) - 0) (omega arith) (start .pre .1 .0) (at-should-retain-bad-state .should-retain-bad-state .kept .1 .1 .1 .1 .1 .0))) (subst (λ z. Retains (start .args .given .now) (start .args .inputs .now) (start .args .replies .now) (start .args .result .now) (take z (start .args .scratch .now)) (start .args .walk) (at-should-retain-bad-state .should-retain-bad-state .result) (at-should-retain-bad-state .should-retain-bad-state .last .1 .1 .1 .1 .0) (at-should-retain-bad-state .should-retain-bad-state .last .1 .1 .1 .1 .1 .0) (retainRule (start .args .given .now) (waysIn (start .args .dumps .now) (start .args .minimise) (start .args .replies .now)) (start .args .how) (start .args .place) (start .args .bad))) (sym (zero-less (start .args .at))) (at-should-retain-bad-state .should-retain-bad-state .ensures)), part-rest (start .args .scratch .now) (at-should-retain-bad-state .should-retain-bad-state .last .1 .1 .1 .1 .1 .0) (start .args .at) ((start .args .at) - 0) (omega arith) (start .pre .1 .0) (at-should-retain-bad-state .should-retain-bad-state .kept .1 .1 .1 .1 .1 .0))
+
+pub retain-in-spec : {M : Type 1} → statement M
+retain-in-spec = tie.close (tie.spec sub-should-retain-bad-state part-should-retain-bad-state-start part-should-retain-bad-state-end should-retain-bad-state-requires same-length same-length-2 returns)

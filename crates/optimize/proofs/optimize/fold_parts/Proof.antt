@@ -1,0 +1,130 @@
+-- The walk runs on the parts, in the mode that its three bits say.
+-- Assumes nothing.
+use borrow.Author.Needs.{needs}
+use Rattle.optimize.specs.Entries.{RunnableParts, modelParts}
+use Rattle.optimize.proofs.EntryLaws.{run-mode}
+use Rattle.optimize.proofs.optimize.fold_parts.Statement.{statement}
+use Rattle.optimize.proofs.optimize.fold_parts.Tie as tie
+
+mul-run : tie.Need-mul-run
+mul-run c = search needs
+
+sub-run : tie.Need-sub-run
+sub-run c = search needs
+
+part-run-start : tie.Need-part-run-start
+part-run-start c = search needs
+
+part-run-end : tie.Need-part-run-end
+part-run-end c = search needs
+
+mul-run-2 : tie.Need-mul-run-2
+mul-run-2 c = search needs
+
+sub-run-2 : tie.Need-sub-run-2
+sub-run-2 c = search needs
+
+part-run-start-2 : tie.Need-part-run-start-2
+part-run-start-2 c = search needs
+
+part-run-end-2 : tie.Need-part-run-end-2
+part-run-end-2 c = search needs
+
+mul-run-3 : tie.Need-mul-run-3
+mul-run-3 c = search needs
+
+sub-run-3 : tie.Need-sub-run-3
+sub-run-3 c = search needs
+
+part-run-start-3 : tie.Need-part-run-start-3
+part-run-start-3 c = search needs
+
+part-run-end-3 : tie.Need-part-run-end-3
+part-run-end-3 c = search needs
+
+mul-run-4 : tie.Need-mul-run-4
+mul-run-4 c = search needs
+
+sub-run-4 : tie.Need-sub-run-4
+sub-run-4 c = search needs
+
+part-run-start-4 : tie.Need-part-run-start-4
+part-run-start-4 c = search needs
+
+part-run-end-4 : tie.Need-part-run-end-4
+part-run-end-4 c = search needs
+
+mul-run-5 : tie.Need-mul-run-5
+mul-run-5 c = search needs
+
+sub-run-5 : tie.Need-sub-run-5
+sub-run-5 c = search needs
+
+part-run-start-5 : tie.Need-part-run-start-5
+part-run-start-5 c = search needs
+
+part-run-end-5 : tie.Need-part-run-end-5
+part-run-end-5 c = search needs
+
+adds-requires : tie.Need-adds-requires
+adds-requires c κs = search needs
+
+adds-requires-2 : tie.Need-adds-requires-2
+adds-requires-2 c κs = search needs
+
+adds-requires-3 : tie.Need-adds-requires-3
+adds-requires-3 c κs = search needs
+
+run-requires : tie.Need-run-requires
+unfolding RunnableParts
+run-requires c κs =
+    let start = c .before .before .before .before .before .before .before .before .before .before .before .before .before .before in
+    start .pre .1
+
+same-length : tie.Need-same-length
+same-length c = search needs
+
+same-length-2 : tie.Need-same-length-2
+same-length-2 c = search needs
+
+returns : tie.Need-returns
+unfolding modelParts
+returns c =
+    let at-run = c .before .before .before .before in
+    let at-adds3 = at-run .before .before .before in
+    let at-adds2 = at-adds3 .before in
+    let at-adds = at-adds2 .before in
+    let start = at-adds .before .before .before .before .before .before .before .before .before .before in
+    run-mode _ (start .args .mode) _ _ _ _ _ _ (at-adds .adds .ensures) (at-adds2 .adds2 .ensures) (at-adds3 .adds3 .ensures) (at-run .run .ensures)
+
+pub fold-parts-spec : {M : Type 1} → statement M
+fold-parts-spec =
+    tie.close
+    (tie.spec
+    mul-run
+    sub-run
+    part-run-start
+    part-run-end
+    mul-run-2
+    sub-run-2
+    part-run-start-2
+    part-run-end-2
+    mul-run-3
+    sub-run-3
+    part-run-start-3
+    part-run-end-3
+    mul-run-4
+    sub-run-4
+    part-run-start-4
+    part-run-end-4
+    mul-run-5
+    sub-run-5
+    part-run-start-5
+    part-run-end-5
+    adds-requires
+    adds-requires-2
+    adds-requires-3
+    run-requires
+    same-length
+    same-length-2
+    returns)

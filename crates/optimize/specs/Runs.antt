@@ -1,0 +1,68 @@
+-- The fold of a judged call: the model that lies in the words, and what running the walk on it leaves.
+--     modelIn     the rules' model          Runnable    what the walk may rely on
+--     Runs        the rules' fold, as the answer and the result buffer have it
+-- Assumes nothing.
+use Prim.Native.Nat.{ℕ, _+_, _*_, _≤_}
+use mathlib.Core.Path.{_≡_}
+use mathlib.Core.Bool.{Bool}
+use mathlib.Core.List.{List, flatten}
+use lib.ListN.{length, getD, take}
+use lib.Dec.{eqb}
+use Rattle.btor.specs.Operators.{rust}
+use Rattle.rules.specs.Refusal.{Out, refused, done}
+use Rattle.rules.specs.Limits.{need}
+use Rattle.rules.specs.Model.{Model, Mode}
+use Rattle.rules.specs.Legal.{WellFormed}
+use Rattle.rules.specs.Whole.{Folded, fold}
+use Rattle.rules.specs.Result.{resultWords}
+use Rattle.tables.specs.Refusals.{refusalOf}
+use Rattle.optimize.specs.declared.walk.Optimized.{Optimized}
+use Rattle.optimize.specs.View.{countOf, tableOf}
+use Rattle.optimize.specs.ResultView.{listsAt, Handed}
+use Rattle.optimize.specs.declared.walk.Walk.{Walk}
+use Rattle.optimize.specs.Ending.{KindsKnown}
+use Rattle.optimize.specs.Laid.{Laid}
+use Rattle.optimize.specs.Bads.{Spare}
+
+abbrev pub modelIn : List ℕ → List ℕ → List ℕ → List ℕ → List ℕ → List ℕ → List ℕ → Model
+modelIn g dumps sequentials initial later inputs replies =
+    record {
+      table = tableOf g;
+      dump = λ k. eqb (getD dumps k 0) 1;
+      sequentials = sequentials;
+      initial = initial;
+      later = later;
+      inputs = inputs;
+      replies = replies;
+    }
+
+abbrev pub modeIn : Bool → Bool → Bool → Mode
+modeIn minimise terminate oneQuery = record { terminate = terminate; oneQuery = oneQuery; minimise = minimise; reading = rust }
+
+-- a well-formed model in words that hold its table, and room for it in both buffers
+pub record Runnable (g dumps ss initial later ins reps : List ℕ) (r s : ℕ) : Type 0 where
+  pub legal : WellFormed (modelIn g dumps ss initial later ins reps)
+  pub known : KindsKnown g
+  pub small : countOf g ≤ 4096
+  pub whole : 1 + 6 * countOf g ≤ length g
+  pub bads : length initial + length later ≤ 2048
+  pub sequentials : length ss ≤ 1024
+  pub inputs : length ins ≤ 4096
+  pub room : need (countOf g) (length ss) (length initial + length later) (length ins) ≤ r
+  pub scratch : need (countOf g) (length ss) (length initial + length later) (length ins) ≤ s
+
+-- the kept sequentials stand in scratch from the place of the lists on and are visited; the bads are still to be judged
+pub record Underway (g dumps ss initial later ins reps : List ℕ) (minimise : Bool) (R S : List ℕ) (w : Walk) (at count : ℕ) : Type 0 where
+  pub runnable : Runnable g dumps ss initial later ins reps (length R) (length S)
+  pub laid : Laid g dumps ins reps minimise R (take at S) w
+  pub spare : Spare g (take at S) w (length initial + (length later + 1))
+  pub place : at ≡ listsAt (countOf g) (length initial + length later)
+  pub fewer : count ≤ length ss
+
+-- what the answer says of an outcome of the fold, and what stands in the result buffer Q of so much room
+unfoldable pub Ends : Model → Out Folded → ℕ → Optimized → List ℕ → Type 0
+Ends m o room (Optimized.Done k) Q = (f : Folded) × (o ≡ done f) × Handed (flatten (resultWords m f)) room Q k
+Ends m o room (Optimized.Refused r) Q = o ≡ refused (refusalOf r)
+
+abbrev pub Runs : Model → Mode → ℕ → Optimized → List ℕ → Type 0
+Runs m how room r Q = Ends m (fold m how) room r Q

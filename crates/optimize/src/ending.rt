@@ -1,0 +1,82 @@
+// The end of a run: the counters and the kind codes of the rows are made sure of, then the result is written.
+// None of it changes the state that lies in the buffers.
+use crate::buffers::node_count;
+use crate::result::Kept;
+use crate::result::Sizes;
+use crate::result::write_result;
+use crate::walk::Walk;
+ghost use Prim.Native.Nat.{ℕ, _+_, _*_, _<_, _≤_};
+ghost use mathlib.Core.Path.{_≡_};
+ghost use mathlib.Core.List.{List, flatten};
+ghost use lib.ListN.{length, drop};
+ghost use Rattle.rules.specs.Model.{Model};
+ghost use Rattle.rules.specs.Walk.{Held};
+ghost use Rattle.rules.specs.Result.{resultWords};
+ghost use Rattle.optimize.specs.View.{countOf, wordOf, view};
+ghost use Rattle.optimize.specs.ResultView.{foldedIn, ModelOf, Handed};
+ghost use Rattle.optimize.specs.Ending.{KindsKept, Ended};
+ghost use Rattle.optimize.specs.declared.walk.Walk.{Walk};
+
+// The smaller of a count and the length of a list: the same entries of the list are left.
+fn at_most(count: usize, most: usize) -> usize
+    ensures { λ r. ⌜ r ≤ most ⌝ }
+    ensures { λ r. ⌜ ((l : List ℕ) → length l ≡ most → drop r l ≡ drop count l) ⌝ }
+{
+    if count < most {
+        return count;
+    }
+    most
+}
+
+// The counters with no more taken and used than there are inputs and replies.
+fn counted(walk: Walk, inputs: &[u64], replies: &[u64]) -> Walk
+    ensures { λ r. ⌜ ((h : List Held) (g R S : List ℕ) → view h g (now (inputs .entry)) (now (replies .entry)) R S r ≡ view h g (now (inputs .entry)) (now (replies .entry)) R S walk) ⌝ }
+    ensures { λ r. ⌜ (r .taken ≤ length (now (inputs .entry))) × (r .used ≤ length (now (replies .entry))) ⌝ }
+    ensures { λ r. ⌜ (r .made ≡ walk .made) × (r .asked ≡ walk .asked) ⌝ }
+{
+    let taken = at_most(walk.taken, inputs.len());
+    let used = at_most(walk.used, replies.len());
+    Walk {
+        made: walk.made,
+        taken: taken,
+        used: used,
+        asked: walk.asked,
+        looked: walk.looked,
+        passed: walk.passed,
+    }
+}
+
+// Puts the given kind code back into each row.
+fn restore_kinds(given: &[u64], result: &mut [u64])
+    requires { ⌜ (countOf (now given) ≤ 4096) × (1 + 6 * countOf (now given) ≤ length (now given)) × (1 + 6 * countOf (now given) ≤ length (now result)) ⌝ }
+    requires { ⌜ KindsKept (now given) (now result) ⌝ }
+    ensures { λ _. ⌜ ((h : List Held) (inputs replies S : List ℕ) (w : Walk) → view h (now (given .entry)) inputs replies (now (result .exit)) S w ≡ view h (now (given .entry)) inputs replies (now (result .entry)) S w) ⌝ }
+    ensures { λ _. ⌜ ((v : ℕ) → v < countOf (now (given .entry)) → wordOf (now (result .exit)) v 0 ≡ wordOf (now (given .entry)) v 0) ⌝ }
+{
+    let n = node_count(given);
+    let mut i = 0;
+    while i < n {
+        result[1 + 6 * i] = given[1 + 6 * i];
+        i += 1;
+    }
+}
+
+// Writes the result of a run, as the walk left it. Answers how many words it has.
+pub(crate) fn write_run(
+    given: &[u64],
+    inputs: &[u64],
+    replies: &[u64],
+    result: &mut [u64],
+    scratch: &[u64],
+    walk: Walk,
+    kept: Kept,
+    sizes: Sizes,
+    verdict: u64,
+) -> usize
+    requires { ⌜ Ended (now given) (now inputs) (now result) (now scratch) walk kept sizes ⌝ }
+    ensures { λ r. ⌜ ((h : List Held) (d : List ℕ) (m : Model) → ModelOf (now (given .entry)) (now (inputs .entry)) (now (replies .entry)) m → Handed (flatten (resultWords m (foldedIn h d (now (given .entry)) (now (inputs .entry)) (now (replies .entry)) (now (result .entry)) (now (scratch .entry)) walk kept sizes verdict))) (length (now (result .entry))) (now (result .exit)) r) ⌝ }
+{
+    let sure = counted(walk, inputs, replies);
+    restore_kinds(given, result);
+    write_result(given, inputs, result, scratch, sure, kept, sizes, verdict)
+}

@@ -1,0 +1,85 @@
+// The last question of one-query: whether the initial bads left are always false.
+use crate::buffers::number;
+use crate::smt_solver::Asked;
+use crate::smt_solver::ask;
+use crate::walk::Walk;
+use tables::refusal::Refusal;
+ghost use Prim.Native.Nat.{ℕ, _+_, _*_, _<_, _≤_};
+ghost use mathlib.Core.Path.{_≡_};
+ghost use mathlib.Core.List.{List, []};
+ghost use lib.ListN.{length, take, drop};
+ghost use Rattle.rules.specs.Walk.{Held};
+ghost use Rattle.rules.specs.Model.{Model, Mode};
+ghost use Rattle.rules.specs.Questions.{ask};
+ghost use Rattle.rules.specs.Whole.{lastQuestion};
+ghost use Rattle.optimize.specs.View.{countOf, view};
+ghost use Rattle.optimize.specs.Process.{askedOf};
+ghost use Rattle.optimize.specs.Lists.{entriesOf};
+ghost use Rattle.optimize.specs.LastQuestion.{answeredOf, verdictThen, forgotten};
+
+// The walk and the verdict: 1 found, 2 not found, 3 folding removed all.
+pub(crate) enum Answered {
+    Done(Walk, u64),
+    Refused(Refusal),
+}
+
+// Reply 1 means not found, any other found.
+fn verdict_of(asked: Asked) -> Answered
+    ensures { λ r. ⌜ ((h : List Held) (g inputs replies R S : List ℕ) → answeredOf h g inputs replies r R S ≡ verdictThen (askedOf h g inputs replies asked R S)) ⌝ }
+{
+    match asked {
+        Asked::Reply(walk, reply) => {
+            if reply == 1 {
+                Answered::Done(walk, 2)
+            } else {
+                Answered::Done(walk, 1)
+            }
+        }
+        Asked::Refused(refusal) => Answered::Refused(refusal),
+    }
+}
+
+// A question whose words stand in scratch before `at`: the lists after them stay.
+fn ask_in(
+    given: &[u64],
+    replies: &[u64],
+    scratch: &mut [u64],
+    at: usize,
+    walk: Walk,
+    kind: u64,
+    first: usize,
+) -> Asked
+    requires { ⌜ (0 < length (now given)) × (countOf (now given) ≤ 4096) ⌝ }
+    requires { ⌜ (at ≤ length (now scratch)) × (2 * countOf (now given) + 4 * (walk .asked + 1) ≤ at) ⌝ }
+    ensures { λ r. ⌜ ((h : List Held) (inputs R : List ℕ) → askedOf h (now (given .entry)) inputs (now (replies .entry)) r R (take at (now (scratch .exit))) ≡ ask (length (now (replies .entry))) (view h (now (given .entry)) inputs (now (replies .entry)) R (take at (now (scratch .entry))) walk) kind first 0 []) ⌝ }
+    ensures { λ _. ⌜ drop at (now (scratch .exit)) ≡ drop at (now (scratch .entry)) ⌝ }
+{
+    ask(given, replies, &mut scratch[0..at], walk, kind, first, 0)
+}
+
+// One always-false question covers the bads left: kind 2 about the only one, kind 5 with their count about several.
+pub(crate) fn last_question(
+    given: &[u64],
+    replies: &[u64],
+    scratch: &mut [u64],
+    at: usize,
+    list: usize,
+    kept: usize,
+    walk: Walk,
+) -> Answered
+    requires { ⌜ (0 < length (now given)) × (countOf (now given) ≤ 4096) ⌝ }
+    requires { ⌜ (at ≤ list) × (list + kept ≤ length (now scratch)) × (2 * countOf (now given) + 4 * (walk .asked + 1) ≤ at) ⌝ }
+    ensures { λ r. ⌜ ((h : List Held) (inputs R : List ℕ) (m : Model) (how : Mode) → length (m .replies) ≡ length (now (replies .entry)) → answeredOf h (now (given .entry)) inputs (now (replies .entry)) r R (take at (now (scratch .exit))) ≡ forgotten (lastQuestion m how (view h (now (given .entry)) inputs (now (replies .entry)) R (take at (now (scratch .entry))) walk) (entriesOf (now (scratch .entry)) list kept))) ⌝ }
+    ensures { λ _. ⌜ drop at (now (scratch .exit)) ≡ drop at (now (scratch .entry)) ⌝ }
+{
+    if kept == 0 {
+        return Answered::Done(walk, 3);
+    }
+    if kept == 1 {
+        let bad = number(scratch[list]);
+        let asked = ask_in(given, replies, scratch, at, walk, 2, bad);
+        return verdict_of(asked);
+    }
+    let asked = ask_in(given, replies, scratch, at, walk, 5, kept);
+    verdict_of(asked)
+}

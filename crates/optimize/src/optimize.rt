@@ -1,0 +1,206 @@
+// The three entry points: a call is judged, folded, and both lent buffers are left as the rules say.
+use crate::result::clear;
+use crate::run::run;
+use crate::walk::Optimized;
+use tables::judge::Verdict;
+use tables::judge::judge;
+use tables::names::mark_memory_dumps;
+use tables::sections::Part;
+use tables::sections::Sections;
+ghost use mathlib.Core.Path.{_≡_};
+ghost use Prim.Native.Nat.{_<_};
+ghost use lib.ListN.{length, replicate};
+ghost use Rattle.rules.specs.Limits.{house, adds, modeOf};
+ghost use Rattle.rules.specs.Call.{left, optimizeModelImpl, optimizeModelWithSolver, optimizeModelWithInput};
+ghost use Rattle.tables.specs.Judging.{callWith};
+ghost use Rattle.optimize.specs.Runs.{Runs};
+ghost use Rattle.optimize.specs.Entries.{entryIs, answered, inputsEnd, repliesEnd, resultLeft, InOrder, Brought, RunnableParts, modelParts};
+
+// Which of the three functions is called.
+pub(crate) enum Entry {
+    Impl,
+    WithSolver,
+    WithInput,
+}
+
+// Whether a mode has added a part: 1, 2 or 4.
+fn adds(mode: u64, part: u64) -> bool
+    requires { ⌜ 0 < part ⌝ }
+    ensures { λ r. ⌜ r ≡ adds mode part ⌝ }
+{
+    mode / part % 2 == 1
+}
+
+// Where the inputs that an entry point brings end: `optimize_model_with_solver` brings none.
+fn inputs_end(entry: Entry, inputs: Part) -> usize
+    ensures { λ r. ⌜ r ≡ inputsEnd (entryIs entry) inputs ⌝ }
+{
+    match entry {
+        Entry::WithSolver => inputs.start,
+        Entry::Impl => inputs.end,
+        Entry::WithInput => inputs.end,
+    }
+}
+
+// Where the replies that an entry point brings end: `optimize_model_with_input` brings none.
+fn replies_end(entry: Entry, replies: Part) -> usize
+    ensures { λ r. ⌜ r ≡ repliesEnd (entryIs entry) replies ⌝ }
+{
+    match entry {
+        Entry::WithInput => replies.start,
+        Entry::Impl => replies.end,
+        Entry::WithSolver => replies.end,
+    }
+}
+
+// Scratch is 0 after each call, and result after a refusal.
+fn finish_call(outcome: Optimized, result: &mut [u64], scratch: &mut [u64]) -> Optimized
+    ensures { λ r. ⌜ r ≡ outcome ⌝ }
+    ensures { λ _. ⌜ now (result .exit) ≡ resultLeft outcome (now (result .entry)) ⌝ }
+    ensures { λ _. ⌜ now (scratch .exit) ≡ replicate (length (now (scratch .entry))) 0 ⌝ }
+{
+    clear(scratch);
+    match outcome {
+        Optimized::Done(words) => Optimized::Done(words),
+        Optimized::Refused(why) => {
+            clear(result);
+            Optimized::Refused(why)
+        }
+    }
+}
+
+// Folds the parts of cut words; inputs and replies end at the two places.
+fn fold_parts(
+    words: &[u64],
+    dumps: &[u8],
+    sections: Sections,
+    inputs_to: usize,
+    replies_to: usize,
+    mode: u64,
+    result: &mut [u64],
+    scratch: &mut [u64],
+) -> Optimized
+    requires { ⌜ Brought (now words) sections «inputs_to» «replies_to» ⌝ }
+    requires { ⌜ RunnableParts (now words) (now dumps) sections «inputs_to» «replies_to» (length (now result)) (length (now scratch)) ⌝ }
+    ensures { λ r. ⌜ Runs (modelParts (now (words .entry)) (now (dumps .entry)) sections «inputs_to» «replies_to») (modeOf mode) (length (now (result .entry))) r (now (result .exit)) ⌝ }
+{
+    let sequentials = sections.sequentials.start;
+    let sequentials_to = sections.sequentials.end;
+    let initial = sections.initial.start;
+    let initial_to = sections.initial.end;
+    let later = sections.later.start;
+    let later_to = sections.later.end;
+    let inputs = sections.inputs.start;
+    let replies = sections.replies.start;
+    run(
+        words,
+        dumps,
+        &words[sequentials..sequentials_to],
+        &words[initial..initial_to],
+        &words[later..later_to],
+        &words[inputs..inputs_to],
+        &words[replies..replies_to],
+        adds(mode, 2),
+        adds(mode, 4),
+        adds(mode, 1),
+        result,
+        scratch,
+    )
+}
+
+// Folds what an entry point brings of a call that is in order.
+fn fold_judged(
+    entry: Entry,
+    mode: u64,
+    words: &[u64],
+    names: &[u8],
+    sections: Sections,
+    result: &mut [u64],
+    scratch: &mut [u64],
+) -> Optimized
+    requires { ⌜ InOrder (callWith mode (now words) (now names) (length (now result)) (length (now scratch))) sections ⌝ }
+    ensures { λ r. ⌜ answered r ≡ left house (entryIs entry) (callWith mode (now (words .entry)) (now (names .entry)) (length (now (result .entry))) (length (now (scratch .entry)))) .answer ⌝ }
+    ensures { λ _. ⌜ now (result .exit) ≡ left house (entryIs entry) (callWith mode (now (words .entry)) (now (names .entry)) (length (now (result .entry))) (length (now (scratch .entry)))) .result ⌝ }
+    ensures { λ _. ⌜ now (scratch .exit) ≡ left house (entryIs entry) (callWith mode (now (words .entry)) (now (names .entry)) (length (now (result .entry))) (length (now (scratch .entry)))) .scratch ⌝ }
+{
+    let mut dumps = [0u8; 4097];
+    mark_memory_dumps(names, &mut dumps);
+    let inputs_to = inputs_end(entry, sections.inputs);
+    let replies_to = replies_end(entry, sections.replies);
+    let outcome = fold_parts(
+        words,
+        &dumps,
+        sections,
+        inputs_to,
+        replies_to,
+        mode,
+        result,
+        scratch,
+    );
+    finish_call(outcome, result, scratch)
+}
+
+// A whole call of an entry point: judged, then folded.
+fn optimize(
+    entry: Entry,
+    mode: u64,
+    words: &[u64],
+    names: &[u8],
+    result: &mut [u64],
+    scratch: &mut [u64],
+) -> Optimized
+    ensures { λ r. ⌜ answered r ≡ left house (entryIs entry) (callWith mode (now (words .entry)) (now (names .entry)) (length (now (result .entry))) (length (now (scratch .entry)))) .answer ⌝ }
+    ensures { λ _. ⌜ now (result .exit) ≡ left house (entryIs entry) (callWith mode (now (words .entry)) (now (names .entry)) (length (now (result .entry))) (length (now (scratch .entry)))) .result ⌝ }
+    ensures { λ _. ⌜ now (scratch .exit) ≡ left house (entryIs entry) (callWith mode (now (words .entry)) (now (names .entry)) (length (now (result .entry))) (length (now (scratch .entry)))) .scratch ⌝ }
+{
+    match judge(mode, words, names, result.len(), scratch.len()) {
+        Verdict::Accepted(sections, _) => {
+            fold_judged(entry, mode, words, names, sections, result, scratch)
+        }
+        Verdict::Refused(why) => finish_call(Optimized::Refused(why), result, scratch),
+    }
+}
+
+// The reference: inputs and replies both count.
+pub fn optimize_model_impl(
+    mode: u64,
+    words: &[u64],
+    names: &[u8],
+    result: &mut [u64],
+    scratch: &mut [u64],
+) -> Optimized
+    ensures { λ r. ⌜ answered r ≡ optimizeModelImpl mode (now (words .entry)) (now (names .entry)) (length (now (result .entry))) (length (now (scratch .entry))) .answer ⌝ }
+    ensures { λ _. ⌜ now (result .exit) ≡ optimizeModelImpl mode (now (words .entry)) (now (names .entry)) (length (now (result .entry))) (length (now (scratch .entry))) .result ⌝ }
+    ensures { λ _. ⌜ now (scratch .exit) ≡ optimizeModelImpl mode (now (words .entry)) (now (names .entry)) (length (now (result .entry))) (length (now (scratch .entry))) .scratch ⌝ }
+{
+    optimize(Entry::Impl, mode, words, names, result, scratch)
+}
+
+// The inputs do not count.
+pub fn optimize_model_with_solver(
+    mode: u64,
+    words: &[u64],
+    names: &[u8],
+    result: &mut [u64],
+    scratch: &mut [u64],
+) -> Optimized
+    ensures { λ r. ⌜ answered r ≡ optimizeModelWithSolver mode (now (words .entry)) (now (names .entry)) (length (now (result .entry))) (length (now (scratch .entry))) .answer ⌝ }
+    ensures { λ _. ⌜ now (result .exit) ≡ optimizeModelWithSolver mode (now (words .entry)) (now (names .entry)) (length (now (result .entry))) (length (now (scratch .entry))) .result ⌝ }
+    ensures { λ _. ⌜ now (scratch .exit) ≡ optimizeModelWithSolver mode (now (words .entry)) (now (names .entry)) (length (now (result .entry))) (length (now (scratch .entry))) .scratch ⌝ }
+{
+    optimize(Entry::WithSolver, mode, words, names, result, scratch)
+}
+
+// Mode 0, and the replies do not count.
+pub fn optimize_model_with_input(
+    words: &[u64],
+    names: &[u8],
+    result: &mut [u64],
+    scratch: &mut [u64],
+) -> Optimized
+    ensures { λ r. ⌜ answered r ≡ optimizeModelWithInput (now (words .entry)) (now (names .entry)) (length (now (result .entry))) (length (now (scratch .entry))) .answer ⌝ }
+    ensures { λ _. ⌜ now (result .exit) ≡ optimizeModelWithInput (now (words .entry)) (now (names .entry)) (length (now (result .entry))) (length (now (scratch .entry))) .result ⌝ }
+    ensures { λ _. ⌜ now (scratch .exit) ≡ optimizeModelWithInput (now (words .entry)) (now (names .entry)) (length (now (result .entry))) (length (now (scratch .entry))) .scratch ⌝ }
+{
+    optimize(Entry::WithInput, 0, words, names, result, scratch)
+}
