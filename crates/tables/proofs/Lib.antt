@@ -3,4 +3,5 @@ pub mod NodeLaws
 pub mod JudgeLaws
 pub mod ListLaws
 pub mod NameLaws
+pub mod LabelLaws
 pub mod JudgedLaws

@@ -1,11 +1,9 @@
--- Laws of the names bytes and of labels, between the code's answers and the rules' definitions.
--- By the tests of one name, which is one step of cutting the names; the walk to name k by the rules' own laws; a label by the place of its name.
+-- Laws of the names bytes, between the code's answers and the rules' definitions.
+-- By the tests of one name, which is one step of cutting the names; the walk to name k by the rules' own laws.
 --     read-cuts          one name read is one step of cutting
 --     count-.., judged-..   how many names, one name after the other
 --     place-.., name-inside   where name k stands, and that it lies within the bytes
 --     dump-place, marked-..   "memory-dump", for one name and for all
---     nodes-.., word-..    section 1 alone, and the name word of a node
---     label-is           a label by the place of the node's name
 --     accepted-..        the answers on bytes that are not refused, in the rules' names
 -- Assumes nothing.
 use Prim.Native.Nat.{ℕ, zero, suc, _+_, _-_, _*_, _<_, _≤_}
@@ -16,21 +14,20 @@ use mathlib.Core.List.{List, [], _∷_, _++_}
 use native.Mathlib.Omega.{arith}
 use native.Mathlib.Nat.{add-zero}
 use native.Mathlib.Numerals.{add-one}
-use lib.ListN.{length, getD, take, drop, set, replicate, length-append, length-drop, drop-of-length-le, List·getD-append}
+use lib.ListN.{length, getD, take, drop, set, replicate, length-append, length-drop, drop-of-length-le}
 use lib.Seq.{drop-cons, drop-drop, drop-append-seam, getD-drop, getD-set-same, getD-set-other}
 use lib.Dec.{ltb}
-use borrow.Author.Tests.{ltb-true, ltb-false, lt-ltb, le-ltb, eq-eqb, ne-eqb}
+use borrow.Author.Tests.{ltb-true, ltb-false, eq-eqb, ne-eqb}
 use borrow.Author.Count.{below-more}
 use Rattle.btor.specs.Operators.{bit}
 use Rattle.rules.specs.Refusal.{Refusal, Out, refused, done, refuse, _>>=_}
-use Rattle.rules.specs.Table.{Row, rowWidth}
 use Rattle.rules.specs.Limits.{house}
-use Rattle.rules.specs.Sections.{Part, cutSection, rowOf, rowsOf, noneLeft}
+use Rattle.rules.specs.Sections.{noneLeft}
 use Rattle.rules.specs.Names.{cutNames, namesOf, nameOf, lengthPlace, nameStart, nameSize, sizedNames, startsWith, memoryDump, dump}
-use Rattle.rules.specs.Label.{at, named, nameOfRow, nameOfNode, orSubstitute, labelOf}
-use Rattle.rules.proofs.Sections.{never, same-done, nothing-at, over-at, short-at, whole-at, Parted, section-done, rows-length, row-of}
+use Rattle.rules.specs.Label.{at, named}
+use Rattle.rules.proofs.Sections.{never, same-done}
 use Rattle.rules.proofs.Names.{name-over, name-short, name-whole, name-missing, names-over, names-within, names-done, name-at}
-use Rattle.tables.specs.NameAnswers.{counted, namesCount, readAt, placeIf, placeAmong, placeOf, dumpAmong, isDump, dumpMark, nodesCut, nodesIn, nameWord, nameWordAmong, nameWordOf}
+use Rattle.tables.specs.NameAnswers.{counted, namesCount, readAt, placeIf, placeAmong, placeOf, dumpAmong, isDump, dumpMark}
 
 -- a part of the bytes
 abbrev pub part : List ℕ → ℕ → ℕ → List ℕ
@@ -248,13 +245,13 @@ place-none bs = go (namesOf house bs)
     go (done names) = refl
 
 -- what stands at a place of a list, or past its end
-at-inside : {A : Type 0} (xs : List A) (k : ℕ) (d : A) → k < length xs → at xs k ≡ some (getD xs k d)
+pub at-inside : {A : Type 0} (xs : List A) (k : ℕ) (d : A) → k < length xs → at xs k ≡ some (getD xs k d)
 unfolding at
 at-inside [] k d h = let o : ⊥ = omega arith in absurd o
 at-inside (x ∷ xs) zero d h = refl
 at-inside (x ∷ xs) (suc k) d h = at-inside xs k d (omega arith)
 
-at-past : {A : Type 0} (xs : List A) (k : ℕ) → length xs ≤ k → at xs k ≡ none
+pub at-past : {A : Type 0} (xs : List A) (k : ℕ) → length xs ≤ k → at xs k ≡ none
 unfolding at
 at-past [] k h = refl
 at-past (x ∷ xs) zero h = let o : ⊥ = omega arith in absurd o
@@ -420,88 +417,6 @@ pub zeros : (n k : ℕ) → _≡_ {A = ℕ} (getD (replicate n 0) k 0) 0
 zeros zero k = refl
 zeros (suc n) zero = refl
 zeros (suc n) (suc k) = zeros n k
-
--- ---- section 1 alone
-module _ (ws : List ℕ) where
-  pub nodes-missing : length ws < 1 → nodesIn ws ≡ 0
-  unfolding nodesCut
-  nodes-missing h = ap nodesCut (nothing-at 1 (house .nodes) rowWidth ws 0 (omega arith))
-
-  module _ (some-words : 1 ≤ length ws) where
-    pub nodes-over : house .nodes < getD ws 0 0 → nodesIn ws ≡ 0
-    unfolding nodesCut
-    nodes-over h = ap nodesCut (over-at 1 (house .nodes) rowWidth ws 0 (omega arith) h)
-
-    pub nodes-short : getD ws 0 0 ≤ house .nodes → length ws < 1 + rowWidth * getD ws 0 0 → nodesIn ws ≡ 0
-    unfolding nodesCut
-    nodes-short h l = ap nodesCut (short-at 1 (house .nodes) rowWidth ws 0 (omega arith) h l)
-
-    pub nodes-whole : getD ws 0 0 ≤ house .nodes → 1 + rowWidth * getD ws 0 0 ≤ length ws → nodesIn ws ≡ getD ws 0 0
-    unfolding nodesCut
-    nodes-whole h l = ap nodesCut (whole-at 1 (house .nodes) rowWidth ws 0 (omega arith) h l)
-
--- the name word of a node that section 1 holds is the sixth of its row
-name-of-row : (ws : List ℕ) (p : Part) (node : ℕ) → Parted (house .nodes) rowWidth ws p → node < p .count
-    → (rowWidth * node + 6 < length ws) × (nameWord (at (rowsOf (p .count) (p .content)) node) ≡ getD ws (rowWidth * node + 6) 0)
-name-of-row ws p node h l =
-    let d : Row = rowOf [] in
-    let c : List ℕ = p .content in
-    let s : suc (rowWidth * node + 5) ≡ rowWidth * node + 6 = omega arith in
-    let i : rowWidth * node + 5 < length c = omega (arith, h .size) in (
-      omega (arith, ap length (h .words), length-append c (p .rest), h .size),
-      ap nameWord (at-inside (rowsOf (p .count) c) node d (omega (arith, rows-length (p .count) c)))
-          ∙ ap (λ (r : Row). r .name) (row-of (p .count) c node d l)
-          ∙ getD-drop (rowWidth * node) c 5 0
-          ∙ sym (List·getD-append c (p .rest) 0 (rowWidth * node + 5) i)
-          ∙ ap (λ l. getD l (suc (rowWidth * node + 5)) 0) (sym (h .words))
-          ∙ ap (λ i. getD ws i 0) s,
-    )
-
-module _ (ws : List ℕ) (node : ℕ) where
-  pub word-past : nodesIn ws ≤ node → nameWordOf ws node ≡ 0
-  unfolding nodesCut nameWordAmong
-  word-past h = go (cutSection 1 (house .nodes) rowWidth ws) h
-    where
-      go : (o : Out Part) → nodesCut o ≤ node → nameWordAmong node o ≡ 0
-      go (refused r) h = refl
-      go (done p) h = ap nameWord (at-past (rowsOf (p .count) (p .content)) node (omega (arith, rows-length (p .count) (p .content))))
-
-  pub word-inside : node < nodesIn ws → (rowWidth * node + 6 < length ws) × (nameWordOf ws node ≡ getD ws (rowWidth * node + 6) 0)
-  unfolding nodesCut nameWordAmong
-  word-inside h = go (cutSection 1 (house .nodes) rowWidth ws) refl h
-    where
-      go : (o : Out Part) → cutSection 1 (house .nodes) rowWidth ws ≡ o → node < nodesCut o
-          → (rowWidth * node + 6 < length ws) × (nameWordAmong node o ≡ getD ws (rowWidth * node + 6) 0)
-      go (refused r) e h = let o : ⊥ = omega arith in absurd o
-      go (done p) e h = name-of-row ws p node (section-done 1 (house .nodes) rowWidth ws p e) h
-
--- ---- labels
-unfoldable pub textOr : List ℕ → List ℕ → Option (ℕ × ℕ) → List ℕ
-textOr substitute bs none = substitute
-textOr substitute bs (some q) = part bs (q .0) (q .1)
-
-pub label-is : (ws bs substitute : List ℕ) (node : ℕ) → labelOf house node ws bs substitute ≡ textOr substitute bs (placeOf bs (nameWordOf ws node))
-unfolding textOr nameOfNode nameWordAmong
-label-is ws bs substitute node = section (cutSection 1 (house .nodes) rowWidth ws)
-  where
-    row : (r : Option Row)
-        → orSubstitute substitute (namesOf house bs >>= λ known. done (nameOfRow known r)) ≡ textOr substitute bs (placeOf bs (nameWord r))
-    row none = nowhere (namesOf house bs) ∙ sym (ap (λ p. textOr substitute bs p) (place-none bs))
-      where
-        nowhere : (o : Out (List (List ℕ))) → orSubstitute substitute (o >>= λ known. done (nameOfRow known none)) ≡ substitute
-        nowhere (refused r) = refl
-        nowhere (done names) = refl
-    row (some r) =
-        place-by (λ p. orSubstitute substitute (namesOf house bs >>= λ known. done (named known (r .name))) ≡ textOr substitute bs p) bs (r .name)
-        (λ q e. ap (λ o. orSubstitute substitute (o >>= λ known. done (named known (r .name)))) e)
-        (λ names e n. ap (λ o. orSubstitute substitute (o >>= λ known. done (named known (r .name)))) e ∙ ap (λ t. orSubstitute substitute (done t)) n)
-        (λ names e l n. ap (λ o. orSubstitute substitute (o >>= λ known. done (named known (r .name)))) e ∙ ap (λ t. orSubstitute substitute (done t)) n)
-
-    section : (o : Out Part)
-        → orSubstitute substitute (o >>= λ nodes. namesOf house bs >>= λ known. done (nameOfRow known (at (rowsOf (nodes .count) (nodes .content)) node)))
-        ≡ textOr substitute bs (placeOf bs (nameWordAmong node o))
-    section (refused r) = sym (ap (λ p. textOr substitute bs p) (place-none bs))
-    section (done nodes) = row (at (rowsOf (nodes .count) (nodes .content)) node)
 
 -- ---- what the answers say of bytes that are accepted
 module _ (bs : List ℕ) (names : List (List ℕ)) (e : namesOf house bs ≡ done names) where

@@ -7,7 +7,8 @@ use native.Mathlib.Omega.{arith}
 use borrow.Author.Needs.{needs}
 use lib.ListN.{length, take, drop}
 use Rattle.tables.specs.NameAnswers.{placed, placeOf, nameWordOf}
-use Rattle.tables.proofs.NameLaws.{textOr, label-is, place-inside}
+use Rattle.tables.proofs.NameLaws.{place-inside}
+use Rattle.tables.proofs.LabelLaws.{textOr, label-is}
 use Rattle.tables.proofs.label.label.Statement.{statement}
 use Rattle.tables.proofs.label.label.Tie as tie
 

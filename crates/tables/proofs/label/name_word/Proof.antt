@@ -6,7 +6,7 @@ use native.Mathlib.Omega.{arith}
 use borrow.Author.Needs.{needs}
 use lib.ListN.{length, getD}
 use Rattle.tables.specs.NameAnswers.{nameWordOf}
-use Rattle.tables.proofs.NameLaws.{word-past, word-inside}
+use Rattle.tables.proofs.LabelLaws.{word-past, word-inside}
 use Rattle.tables.proofs.label.name_word.Statement.{statement}
 use Rattle.tables.proofs.label.name_word.Tie as tie
 

@@ -2,7 +2,7 @@
 -- Assumes nothing.
 use mathlib.Core.Path.{sym}
 use borrow.Author.Needs.{needs}
-use Rattle.tables.proofs.NameLaws.{nodes-missing, nodes-over, nodes-short, nodes-whole}
+use Rattle.tables.proofs.LabelLaws.{nodes-missing, nodes-over, nodes-short, nodes-whole}
 use Rattle.tables.proofs.label.nodes_in.Statement.{statement}
 use Rattle.tables.proofs.label.nodes_in.Tie as tie
 
