@@ -36,3 +36,5 @@ pub mod Reader
 pub mod Call
 pub mod CallCases
 pub mod Judged
+pub mod NumberedWalk
+pub mod Numbered

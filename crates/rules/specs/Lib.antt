@@ -25,3 +25,4 @@ pub mod Call
 pub mod Label
 pub mod Text
 pub mod Reader
+pub mod Numbered
