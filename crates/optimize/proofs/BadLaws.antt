@@ -41,6 +41,7 @@ use Rattle.optimize.proofs.Views.{row-below, firsts-length}
 use Rattle.optimize.proofs.Steps.{table-length}
 use Rattle.optimize.proofs.Walks.{came-done}
 use Rattle.optimize.proofs.Keeps.{asked-kept}
+use Rattle.optimize.proofs.Forms.{assoc, bind-same}
 use Rattle.optimize.proofs.Entries.{entries-more, same-entry, later-same}
 
 -- ---- by the reply
@@ -159,14 +160,6 @@ no-entry S list kept entry stays t =
 -- ---- a list, one by one
 abbrev pub before : List ℕ → List ℕ → Bads → Bads
 before E D r = record { after = r .after; stay = E ++ r .stay; dropped = D ++ r .dropped }
-
-assoc : {A B C : Type 0} (o : Out A) (f : A → Out B) (k : B → Out C) → ((o >>= f) >>= k) ≡ (o >>= λ x. f x >>= k)
-assoc (refused z) f k = refl
-assoc (done x) f k = refl
-
-bind-same : {A B : Type 0} (o : Out A) (f k : A → Out B) → ((x : A) → f x ≡ k x) → (o >>= f) ≡ (o >>= k)
-bind-same (refused z) f k h = refl
-bind-same (done x) f k h = h x
 
 module _ (g : List ℕ) (ways : Ways) (how : Judging) (i : ℕ) (σ : St) (b : ℕ) (bs : List ℕ) where
   abbrev rest : St × Judgement → Out Bads

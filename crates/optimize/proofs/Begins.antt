@@ -2,14 +2,14 @@
 -- By the rules' invariant of a start whose sequentials are judged.
 -- Assumes nothing.
 use Prim.Native.Nat.{ℕ, zero, suc, _+_, _*_, _≤_}
-use mathlib.Core.Path.{_≡_, refl, sym, ap, subst}
+use mathlib.Core.Path.{_≡_, refl, sym, subst}
 use mathlib.Core.Bool.{Bool, true, false}
 use mathlib.Core.List.{List, []}
 use native.Mathlib.Nat.{mul-le-mul}
 use native.Mathlib.Omega.{arith}
 use lib.ListN.{length}
 use Rattle.btor.specs.Operators.{bit, rust}
-use Rattle.rules.specs.Lists.{All, sum}
+use Rattle.rules.specs.Lists.{All}
 use Rattle.rules.specs.Table.{Write, Read, Node, nodeAt, is}
 use Rattle.rules.specs.Legal.{AllLegal, Sequential}
 use Rattle.rules.specs.Walk.{St, fresh, start}
@@ -18,6 +18,7 @@ use Rattle.rules.specs.Tally.{writes}
 use Rattle.rules.specs.Room.{unpaid}
 use Rattle.rules.specs.Visit.{Ways}
 use Rattle.rules.proofs.Budget.{unpaid-all}
+use Rattle.rules.proofs.Room.{sum-bound}
 use Rattle.rules.proofs.Shape.{start-shape, start-books}
 use Rattle.rules.proofs.Went.{fee, Fine}
 use Rattle.rules.proofs.Walked.{Walked, sequentials-walked}
@@ -35,14 +36,9 @@ bit-most : (b : Bool) (W : ℕ) → bit b * W ≤ W
 bit-most true W = omega arith
 bit-most false W = omega arith
 
-sum-most : (c : ℕ) (f : ℕ → ℕ) → ((i : ℕ) → f i ≤ 1) → sum c f ≤ c
-unfolding sum
-sum-most zero f h = omega arith
-sum-most (suc c) f h = omega (arith, h c, sum-most c f h)
-
 writes-few : (t : List Node) → writes t ≤ length t
 unfolding writes
-writes-few t = sum-most (length t) (λ k. bit (is Write (nodeAt t k))) (λ i. bit-one (is Write (nodeAt t i)))
+writes-few t = sum-bound (length t) (λ k. bit (is Write (nodeAt t k))) (λ i. bit-one (is Write (nodeAt t i)))
 
 fees : (t : List Node) (c : ℕ) → unpaid (fee t) c (λ k. fresh) ≤ c * writes t
 unfolding unpaid

@@ -22,11 +22,11 @@ use Rattle.optimize.proofs.Steps.{table-length}
 use Rattle.optimize.proofs.Walks.{node-at}
 
 -- ---- binds
-assoc : {A B C : Type 0} (o : Out A) (f : A → Out B) (k : B → Out C) → ((o >>= f) >>= k) ≡ (o >>= λ x. f x >>= k)
+pub assoc : {A B C : Type 0} (o : Out A) (f : A → Out B) (k : B → Out C) → ((o >>= f) >>= k) ≡ (o >>= λ x. f x >>= k)
 assoc (refused z) f k = refl
 assoc (done x) f k = refl
 
-bind-same : {A B : Type 0} (o : Out A) (f k : A → Out B) → ((x : A) → f x ≡ k x) → (o >>= f) ≡ (o >>= k)
+pub bind-same : {A B : Type 0} (o : Out A) (f k : A → Out B) → ((x : A) → f x ≡ k x) → (o >>= f) ≡ (o >>= k)
 bind-same (refused z) f k h = refl
 bind-same (done x) f k h = h x
 

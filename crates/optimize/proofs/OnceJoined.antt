@@ -4,7 +4,7 @@
 use Prim.Native.Nat.{ℕ, _+_, _-_, _*_, _<_, _≤_}
 use mathlib.Core.Path.{_≡_, refl, sym, ap, _∙_, subst}
 use mathlib.Core.Bool.{Bool, true, false}
-use mathlib.Core.List.{List, [], _∷_, flatten, map}
+use mathlib.Core.List.{List, flatten}
 use native.Mathlib.Omega.{arith}
 use lib.ListN.{length, getD, take, drop, length-take, length-map}
 use lib.Seq.{paste}
@@ -12,22 +12,18 @@ use Rattle.rules.specs.Refusal as rules
 use Rattle.rules.specs.Refusal.{Out, refused, done, _>>=_}
 use Rattle.rules.specs.Walk.{St, Held}
 use Rattle.rules.specs.Model.{Model, Mode}
-use Rattle.rules.specs.Legal.{AllLegal}
-use Rattle.rules.specs.Room.{unpaid}
-use Rattle.rules.specs.Questions.{ask}
-use Rattle.rules.specs.Whole.{Bads, bads, Folded, waysOf, lastQuestion, foldBads}
+use Rattle.rules.specs.Whole.{Bads, bads, Folded, lastQuestion, foldBads}
 use Rattle.rules.specs.Result.{resultWords}
-use Rattle.rules.proofs.Base.{If, if-bind}
+use Rattle.rules.proofs.Base.{If}
 use Rattle.rules.proofs.Sections.{never, same-done}
-use Rattle.rules.proofs.Walked.{Walked, Goes, none-walked, ask-walked}
+use Rattle.rules.proofs.Walked.{Walked, Goes, last-walked}
 use Rattle.tables.specs.Refusals.{refusalOf}
 use Rattle.tables.specs.declared.refusal.Refusal.{Refusal}
 use Rattle.optimize.specs.declared.walk.Walk.{Walk}
 use Rattle.optimize.specs.declared.walk.Optimized.{Optimized}
 use Rattle.optimize.specs.declared.last_question.Answered.{Answered}
 use Rattle.optimize.specs.declared.result.Kept.{Kept}
-use Rattle.optimize.specs.declared.result.Sizes.{Sizes}
-use Rattle.optimize.specs.View.{countOf, tableOf, waysIn, markOf, questionOf, view}
+use Rattle.optimize.specs.View.{countOf, tableOf, waysIn, questionOf, view}
 use Rattle.optimize.specs.ResultView.{foldedIn, Handed}
 use Rattle.optimize.specs.Lists.{entriesOf}
 use Rattle.optimize.specs.Laid.{Laid}
@@ -77,36 +73,24 @@ module _ (h : List Held) (g ins reps : List ℕ) (r : Answered) (R S : List ℕ)
   unfolding answeredOf
   answered-done w v q = forgotten-done o (view h g ins reps R S w) v (sym (ap (λ (x : Answered). answeredOf h g ins reps x R S) q) ∙ e)
 
--- ---- what the last question spends
-module _ (m : Model) (how : Mode) (legal : AllLegal (m .table)) where
-  last-walked : (σ : St) (bs : List ℕ) → If (λ p. Goes (m .table) (waysOf m how) (m .inputs) (m .replies) legal 1 σ (p .0)) (lastQuestion m how σ bs)
-  unfolding lastQuestion
-  last-walked σ [] = none-walked (m .table) (waysOf m how) (m .inputs) (m .replies) legal 1 σ
-  last-walked σ (b ∷ []) =
-      if-bind (λ p. Goes (m .table) (waysOf m how) (m .inputs) (m .replies) legal 1 σ (p .0)) (λ p. Goes (m .table) (waysOf m how) (m .inputs) (m .replies) legal 1 σ (p .0)) (ask (length (m .replies)) σ 2 b 0 []) _
-      (ask-walked (m .table) (waysOf m how) (m .inputs) (m .replies) legal σ 2 b 0 []) (λ p h. h)
-  last-walked σ (b ∷ b′ ∷ bs) =
-      if-bind (λ p. Goes (m .table) (waysOf m how) (m .inputs) (m .replies) legal 1 σ (p .0)) (λ p. Goes (m .table) (waysOf m how) (m .inputs) (m .replies) legal 1 σ (p .0)) (ask (length (m .replies)) σ 5 (length (b ∷ b′ ∷ bs)) 0 (b ∷ b′ ∷ bs)) _
-      (ask-walked (m .table) (waysOf m how) (m .inputs) (m .replies) legal σ 5 (length (b ∷ b′ ∷ bs)) 0 (b ∷ b′ ∷ bs)) (λ p h. h)
+-- ---- the rules' fold under one-query, outcome by outcome
+module _ (m : Model) (how : Mode) (σ : St) (seqs : List ℕ) where
+  abbrev after-bads : Bads → Out Folded
+  after-bads i = lastQuestion m how (i .after) (i .stay) >>= λ p. done (record { state = p .0; sequentials = seqs; initial = i .stay; later = m .later; dropped = i .dropped; verdict = p .1 })
 
-  -- ---- the rules' fold under one-query, outcome by outcome
-  module _ (σ : St) (seqs : List ℕ) where
-    abbrev after-bads : Bads → Out Folded
-    after-bads i = lastQuestion m how (i .after) (i .stay) >>= λ p. done (record { state = p .0; sequentials = seqs; initial = i .stay; later = m .later; dropped = i .dropped; verdict = p .1 })
+  once-is : foldBads m how true σ seqs ≡ (bads m how false true 3 σ (m .initial) >>= after-bads)
+  unfolding foldBads
+  once-is = refl
 
-    once-is : foldBads m how true σ seqs ≡ (bads m how false true 3 σ (m .initial) >>= after-bads)
-    unfolding foldBads
-    once-is = refl
+  pub once-refused : (z : rules.Refusal) → bads m how false true 3 σ (m .initial) ≡ refused z → foldBads m how true σ seqs ≡ refused z
+  once-refused z e = once-is ∙ ap (λ (o : Out Bads). o >>= after-bads) e
 
-    pub once-refused : (z : rules.Refusal) → bads m how false true 3 σ (m .initial) ≡ refused z → foldBads m how true σ seqs ≡ refused z
-    once-refused z e = once-is ∙ ap (λ (o : Out Bads). o >>= after-bads) e
+  pub last-refused : (i : Bads) (z : rules.Refusal) → bads m how false true 3 σ (m .initial) ≡ done i → lastQuestion m how (i .after) (i .stay) ≡ refused z → foldBads m how true σ seqs ≡ refused z
+  last-refused i z e d = once-is ∙ ap (λ (o : Out Bads). o >>= after-bads) e ∙ ap (λ (o : Out (St × ℕ)). o >>= λ p. done (record { state = p .0; sequentials = seqs; initial = i .stay; later = m .later; dropped = i .dropped; verdict = p .1 })) d
 
-    pub last-refused : (i : Bads) (z : rules.Refusal) → bads m how false true 3 σ (m .initial) ≡ done i → lastQuestion m how (i .after) (i .stay) ≡ refused z → foldBads m how true σ seqs ≡ refused z
-    last-refused i z e d = once-is ∙ ap (λ (o : Out Bads). o >>= after-bads) e ∙ ap (λ (o : Out (St × ℕ)). o >>= λ p. done (record { state = p .0; sequentials = seqs; initial = i .stay; later = m .later; dropped = i .dropped; verdict = p .1 })) d
-
-    pub last-asked : (i : Bads) (τ : St) (v : ℕ) → bads m how false true 3 σ (m .initial) ≡ done i → lastQuestion m how (i .after) (i .stay) ≡ done (τ, v)
-        → foldBads m how true σ seqs ≡ done (record { state = τ; sequentials = seqs; initial = i .stay; later = m .later; dropped = i .dropped; verdict = v })
-    last-asked i τ v e d = once-is ∙ ap (λ (o : Out Bads). o >>= after-bads) e ∙ ap (λ (o : Out (St × ℕ)). o >>= λ p. done (record { state = p .0; sequentials = seqs; initial = i .stay; later = m .later; dropped = i .dropped; verdict = p .1 })) d
+  pub last-asked : (i : Bads) (τ : St) (v : ℕ) → bads m how false true 3 σ (m .initial) ≡ done i → lastQuestion m how (i .after) (i .stay) ≡ done (τ, v)
+      → foldBads m how true σ seqs ≡ done (record { state = τ; sequentials = seqs; initial = i .stay; later = m .later; dropped = i .dropped; verdict = v })
+  last-asked i τ v e d = once-is ∙ ap (λ (o : Out Bads). o >>= after-bads) e ∙ ap (λ (o : Out (St × ℕ)). o >>= λ p. done (record { state = p .0; sequentials = seqs; initial = i .stay; later = m .later; dropped = i .dropped; verdict = p .1 })) d
 
 module _ (g dumps ss initial later ins reps : List ℕ) (minimise : Bool) (R S : List ℕ) (w : Walk) (at count : ℕ) (u : Underway g dumps ss initial later ins reps minimise R S w at count) (terminate : Bool) where
   abbrev m : Model
@@ -163,11 +147,11 @@ module _ (g dumps ss initial later ins reps : List ℕ) (minimise : Bool) (R S :
   module _ (σ : St) where
     pub once-first : (z : Refusal) (room : ℕ) (U : List ℕ) → bads m how false true 3 σ initial ≡ refused (refusalOf z) → Ends m (foldBads m how true σ (entriesOf S at count)) room (Optimized.Refused z) U
     unfolding Ends
-    once-first z room U e = once-refused m how (u .runnable .legal .nodes) σ (entriesOf S at count) (refusalOf z) e
+    once-first z room U e = once-refused m how σ (entriesOf S at count) (refusalOf z) e
 
     pub once-last : (i : Bads) (z : Refusal) (room : ℕ) (U : List ℕ) → bads m how false true 3 σ initial ≡ done i → lastQuestion m how (i .after) (i .stay) ≡ refused (refusalOf z) → Ends m (foldBads m how true σ (entriesOf S at count)) room (Optimized.Refused z) U
     unfolding Ends
-    once-last i z room U e d = last-refused m how (u .runnable .legal .nodes) σ (entriesOf S at count) i (refusalOf z) e d
+    once-last i z room U e d = last-refused m how σ (entriesOf S at count) i (refusalOf z) e d
 
     module _ (S₁ S₂ Q : List ℕ) (h₁ : List Held) (d₁ : List ℕ) (w₁ v : Walk) (i verdict : ℕ) (b : drop at S₂ ≡ drop at S₁) (p : length S₁ ≡ length S) (q : length S₂ ≡ length S)
         (a : (j : ℕ) → at ≤ j → j < at + length ss → getD S₁ j 0 ≡ getD S j 0) (few : i ≤ length initial) (asks : 2 * countOf g + 4 * v .asked ≤ at) where
@@ -210,6 +194,6 @@ module _ (g dumps ss initial later ins reps : List ℕ) (minimise : Bool) (R S :
           let lies : bareFolded f ≡ foldedIn h₁ d₁ g ins reps Q T v (record { sequentials = count; initial = i; later = length later }) (record { sequentials = length ss; initial = length initial; later = length later }) verdict = bare ∙ folded-is h₁ d₁ g ins reps Q T v (record { sequentials = count; initial = i; later = length later }) (record { sequentials = length ss; initial = length initial; later = length later }) verdict at (entriesOf S at count) (x .stay) later (u .place) asks first second (sym (copied-entries S₂ later third fits)) in
           let words : resultWords m (foldedIn h₁ d₁ g ins reps Q T v (record { sequentials = count; initial = i; later = length later }) (record { sequentials = length ss; initial = length initial; later = length later }) verdict) ≡ resultWords m f = sym (ap (resultWords m) lies) ∙ bare-same m f in (
             f,
-            last-asked m how (u .runnable .legal .nodes) σ (entriesOf S at count) x (l .state) verdict e (l .asked),
+            last-asked m how σ (entriesOf S at count) x (l .state) verdict e (l .asked),
             subst (λ (c : ℕ). Handed (flatten (resultWords m f)) c U r) same (subst (λ (ws : List (List ℕ)). Handed (flatten ws) (length Q) U r) words hand),
           )

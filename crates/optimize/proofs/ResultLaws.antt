@@ -15,13 +15,13 @@ use Rattle.rules.specs.Model.{Model}
 use Rattle.rules.specs.Walk.{Question, Held}
 use Rattle.rules.specs.Whole.{Folded}
 use Rattle.rules.specs.Result.{nodeWords, constWords, markWords, isReplaced, gather, questionWords, listed, tallyOf, resultWords}
+use Rattle.rules.proofs.Flat.{gather-snoc}
 use Rattle.optimize.specs.View.{countOf, wordOf, firsts, rowsOf, markOf, questionOf, view}
 use Rattle.optimize.specs.ResultView.{listsAt, partOf, Finished, foldedIn, ModelOf, Wrote, keptWords, restWords, Handed}
 use Rattle.optimize.specs.declared.walk.Walk.{Walk}
 use Rattle.optimize.specs.declared.result.Kept.{Kept}
 use Rattle.optimize.specs.declared.result.Sizes.{Sizes}
 use Rattle.optimize.proofs.Views.{firsts-length, row-below, row-made}
-use Rattle.optimize.proofs.WriteLaws.{gather-snoc}
 
 -- ---- parts of a list
 -- a part, word by word

@@ -7,7 +7,7 @@
 use Prim.Native.Nat.{ℕ, zero, suc, _+_, _-_, _<_, _≤_}
 use mathlib.Core.Path.{_≡_, refl, sym, ap, ap₂, _∙_, subst}
 use mathlib.Core.Bool.{true, false, cond}
-use mathlib.Core.Option.{Option, none, some}
+use mathlib.Core.Option.{none, some}
 use mathlib.Core.List.{List}
 use lib.ListN.{length}
 use native.Mathlib.Nat.{sub-zero}
@@ -18,7 +18,7 @@ use Rattle.rules.specs.Table.{Write, Node, is}
 use Rattle.rules.specs.Fold.{constOf}
 use Rattle.rules.specs.Memory.{Found, lost, hit, past, meet, lookAt, find}
 use Rattle.rules.proofs.Search.{Points}
-use Rattle.rules.proofs.Steps.{after, after-none}
+use Rattle.rules.proofs.Steps.{after, same-found, after-none}
 use Rattle.optimize.specs.View.{wordOf, rowsOf}
 use Rattle.optimize.specs.Folding.{Falls, lookIs, LooksAt}
 use Rattle.optimize.specs.declared.memory.Look.{Look}
@@ -97,9 +97,6 @@ module _ (n made : ℕ) (R : List ℕ) (k x : ℕ) where
           }
 
 -- ---- the loop
-same-found : (v : Option ℕ) (a b c d : ℕ) → a ≡ b → c ≡ d → _≡_ {A = Found} (record { value = v; looked = a; unsettled = c }) (record { value = v; looked = b; unsettled = d })
-same-found v a b c d p q = ap₂ (λ s t. record { value = v; looked = s; unsettled = t }) p q
-
 after-past : (l u w : ℕ) (r : Found) → after l u (past w r) ≡ after (l + 1) (u + w) r
 after-past l u w r =
     same-found (r .value) (l + (r .looked + 1)) (l + 1 + r .looked) (u + (r .unsettled + w)) (u + w + r .unsettled) (omega arith) (omega arith)

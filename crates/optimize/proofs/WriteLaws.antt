@@ -7,7 +7,7 @@ use Prim.Native.Nat.{ℕ, zero, suc, _+_, _*_, _<_, _≤_}
 use mathlib.Core.Path.{_≡_, refl, sym, ap, ap₂, _∙_}
 use mathlib.Core.List.{List, [], _∷_, _++_, append-assoc, append-nil}
 use native.Mathlib.Numerals.{add-one}
-use native.Mathlib.Nat.{add-zero, zero-add, add-suc, suc-add}
+use native.Mathlib.Nat.{zero-add}
 use native.Mathlib.Omega.{arith}
 use borrow.Author.Tests.{lt-ltb, ne-eqb}
 use lib.Dec.{eqb}
@@ -17,6 +17,7 @@ use lib.Seq.{take-suc-set, take-add, take-set-le, drop-cons, drop-set-lt, getD-s
 use Rattle.rules.specs.Lists.{sum}
 use Rattle.rules.specs.Walk.{fresh, kept, replaced}
 use Rattle.rules.specs.Result.{gather, isReplaced, markWords, listed}
+use Rattle.rules.proofs.Flat.{gather-snoc}
 use Rattle.optimize.specs.View.{markBy, markOf}
 use Rattle.optimize.specs.ResultView.{partOf, Wrote}
 
@@ -128,13 +129,6 @@ module _ (n : ℕ) (S : List ℕ) (k : ℕ) (l : k < n) where
     pair-put h f = rw (mark-high h, add-one at) (wrote-stores R at (k ∷ getD S (n + k) 0 ∷ []) f)
 
 -- ---- runs of words
-pub gather-snoc : (c k : ℕ) (f : ℕ → List ℕ) → gather (suc c) k f ≡ gather c k f ++ f (k + c)
-unfolding gather
-gather-snoc zero k f = append-nil (f k) ∙ ap f (sym (add-zero k))
-gather-snoc (suc c) k f =
-    ap (λ l. f k ++ l) (gather-snoc c (suc k) f ∙ ap (λ i. gather c (suc k) f ++ f i) (suc-add k c ∙ sym (add-suc k c)))
-    ∙ sym (append-assoc (f k) (gather c (suc k) f) (f (k + suc c)))
-
 pub wrote-first : (R : List ℕ) (at : ℕ) (f : ℕ → List ℕ) → at ≤ length R → Wrote R R at at (gather 0 0 f)
 unfolding gather
 wrote-first R at f h = wrote-none R at h

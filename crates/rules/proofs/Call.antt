@@ -29,7 +29,7 @@ use Rattle.rules.specs.Call.{Call, judgeMode, needOf, judgeRoom, Entry, 
 use Rattle.rules.specs.Legal as legal
 use Rattle.rules.specs.Room.{RoomRule}
 use Rattle.rules.proofs.Check.{accepted}
-use Rattle.rules.proofs.Demand.{demand-3}
+use Rattle.rules.proofs.Demand.{run-done, demand-3}
 use Rattle.rules.proofs.Room.{room-rule}
 use Rattle.rules.proofs.Sections.{bind-done, never, same-done, through}
 
@@ -87,10 +87,6 @@ unrefused : (o : Option Refusal) (x : Out Folded) (f : Folded) → o ≡ none �
 unrefused none x f e g = g
 unrefused (some r) x f e g = let z : _≡_ {A = ℕ} 0 1 = cc in let o : ⊥ = omega arith in absurd o
 
-unrefused-done : (o : Option Refusal) (x : Out Folded) (f : Folded) → unlessRefused o x ≡ done f → (o ≡ none) × (x ≡ done f)
-unrefused-done none x f e = (refl, e)
-unrefused-done (some r) x f e = never (refused r) r f refl e
-
 -- ---- every stage of an accepted call
 pub record Passed (limits : Limits) (entry : Entry) (call : Call) (a : Accepted) : Type 0 where
   pub sections : Sections
@@ -113,7 +109,7 @@ module _ (limits : Limits) (entry : Entry) (call : Call) where
       → Passed limits entry call (record { how = how; model = modelFrom names (brought entry s); folded = f })
   unfolding run
   assemble how s names f m c n r e =
-      let g = unrefused-done (check (length names) (s .rows) (modelFrom names (brought entry s))) (fold (modelFrom names (brought entry s)) how) f e in
+      let g = run-done (check (length names) (s .rows) (modelFrom names (brought entry s))) (fold (modelFrom names (brought entry s)) how) f e in
       record {
         sections = s;
         names = names;

@@ -35,11 +35,11 @@ module _ (how : Reading) (t : List Node) (α : ℕ → Value) (σ : St) where
   unfolding worthOf
   worth-node k l = simp (lt-ltb k (length t) l)
 
-  worth-false : worthOf how t α σ (length t) ≡ number 0
+  pub worth-false : worthOf how t α σ (length t) ≡ number 0
   unfolding worthOf
   worth-false = simp (le-ltb (length t) (length t) (omega arith), eq-eqb (length t) (length t) refl)
 
-  worth-true : worthOf how t α σ (length t + 1) ≡ number 1
+  pub worth-true : worthOf how t α σ (length t + 1) ≡ number 1
   unfolding worthOf
   worth-true =
       simp (le-ltb (length t + 1) (length t) (omega arith), ne-eqb (length t + 1) (length t) (λ e. omega arith), eq-eqb (length t + 1) (length t + 1) refl)
@@ -135,7 +135,7 @@ demand-3-of-fold m how f wf run clean replies α faithful =
     keeps m how f wf run (none-passed (how .reading) f (folded m how wf f run .fine .books .clean) clean) α (replies α faithful) faithful
 
 -- a run that is done was not refused, and its fold is done
-run-done : (o : Option Refusal) (x : Out Folded) (f : Folded) → unlessRefused o x ≡ done f → (o ≡ none) × (x ≡ done f)
+pub run-done : (o : Option Refusal) (x : Out Folded) (f : Folded) → unlessRefused o x ≡ done f → (o ≡ none) × (x ≡ done f)
 run-done none x f e = (refl, e)
 run-done (some r) x f e = let z : _≡_ {A = ℕ} 0 1 = cc in let o : ⊥ = omega arith in absurd o
 

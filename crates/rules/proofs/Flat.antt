@@ -1,14 +1,16 @@
--- Records of p words each, one after the other in a list: what stands where, and a store. For the words of a slice that hold a table.
+-- Runs of words, one after the other in a list. Of records of p words each: what stands where, and a store, for the words of a slice that
+-- hold a table. Of the replacements: how many words they are.
 -- Assumes nothing.
 use Prim.Native.Nat.{ℕ, zero, suc, _+_, _*_, _<_, _≤_}
 use mathlib.Core.Path.{_≡_, refl, sym, ap, ap₂, _∙_}
-use mathlib.Core.List.{List, [], _∷_, _++_}
+use mathlib.Core.List.{List, [], _∷_, _++_, append-assoc, append-nil}
 use native.Mathlib.Omega.{arith}
 use native.Mathlib.Nat.{add-zero, add-suc, suc-add, zero-add}
 use lib.ListN.{length, getD, set, length-append, List·getD-append}
 use lib.Seq.{getD-append-add, set-append-left}
-use Rattle.rules.specs.Lists.{put}
-use Rattle.rules.specs.Result.{gather}
+use Rattle.rules.specs.Lists.{put, sum}
+use Rattle.rules.specs.Walk.{Mark, fresh, kept, replaced}
+use Rattle.rules.specs.Result.{gather, markWords, isReplaced}
 use Rattle.rules.proofs.Base.{put-same, put-other}
 
 -- a store past the first list
@@ -21,6 +23,30 @@ unfolding gather
 gather-same zero k f g h = refl
 gather-same (suc c) k f g h = ap₂ (λ a b. a ++ b) (h k (omega arith)) (gather-same c (suc k) f g (λ i l. h i (omega arith)))
 
+-- the last of a run
+pub gather-snoc : (c k : ℕ) (f : ℕ → List ℕ) → gather (suc c) k f ≡ gather c k f ++ f (k + c)
+unfolding gather
+gather-snoc zero k f = append-nil (f k) ∙ ap f (sym (add-zero k))
+gather-snoc (suc c) k f =
+    ap (λ l. f k ++ l) (gather-snoc c (suc k) f ∙ ap (λ i. gather c (suc k) f ++ f i) (suc-add k c ∙ sym (add-suc k c)))
+    ∙ sym (append-assoc (f k) (gather c (suc k) f) (f (k + suc c)))
+
+-- ---- replacements, two words each
+pub mark-size : (k : ℕ) (m : Mark) → length (markWords k m) ≡ 2 * isReplaced m
+mark-size k fresh = refl
+mark-size k kept = refl
+mark-size k (replaced r) = refl
+
+pub marks-snoc : (n : ℕ) (f : ℕ → Mark) → gather (suc n) 0 (λ i. markWords i (f i)) ≡ gather n 0 (λ i. markWords i (f i)) ++ markWords n (f n)
+marks-snoc n f = gather-snoc n 0 (λ i. markWords i (f i)) ∙ ap (λ i. gather n 0 (λ i. markWords i (f i)) ++ markWords i (f i)) (zero-add n)
+
+pub marks-size : (n : ℕ) (f : ℕ → Mark) → length (gather n 0 (λ i. markWords i (f i))) ≡ 2 * sum n (λ i. isReplaced (f i))
+unfolding sum gather
+marks-size zero f = refl
+marks-size (suc n) f =
+    ap length (marks-snoc n f) ∙ length-append (gather n 0 (λ i. markWords i (f i))) (markWords n (f n)) ∙ omega (arith, mark-size n (f n), marks-size n f)
+
+-- ---- records
 module _ (p : ℕ) where
   pub gather-size : (c k : ℕ) (f : ℕ → List ℕ) → ((i : ℕ) → length (f i) ≡ p) → length (gather c k f) ≡ c * p
   unfolding gather

@@ -29,7 +29,7 @@ mark-length k fresh = omega arith
 mark-length k kept = omega arith
 mark-length k (replaced r) = omega arith
 
-question-length : (qs : List Question) → length (questionWords qs) ≡ 4 * length qs
+pub question-length : (qs : List Question) → length (questionWords qs) ≡ 4 * length qs
 unfolding questionWords
 question-length [] = refl
 question-length (q ∷ qs) = omega (arith, question-length qs)
@@ -86,7 +86,7 @@ module _ (m : Model) (how : Mode) where
       (λ σ _. if-map (Short (j .1)) (Short (m .sequentials)) (foldBads m how (how .oneQuery) σ (j .1))
       (λ f h. (omega (arith, h .0, sequentials-length t σ₀ (m .sequentials)), h .1, h .2)) (foldBads-length (how .oneQuery) σ (j .1)))
 
-sum-bound : (c : ℕ) (f : ℕ → ℕ) → ((i : ℕ) → f i ≤ 1) → sum c f ≤ c
+pub sum-bound : (c : ℕ) (f : ℕ → ℕ) → ((i : ℕ) → f i ≤ 1) → sum c f ≤ c
 unfolding sum
 sum-bound zero f h = omega arith
 sum-bound (suc c) f h = omega (arith, h c, sum-bound c f h)

@@ -16,7 +16,7 @@ use Rattle.rules.specs.Memory.{Found, lost, hit, past, meet, lookAt}
 abbrev pub after : ℕ → ℕ → Found → Found
 after l u r = record { value = r .value; looked = l + r .looked; unsettled = u + r .unsettled }
 
-same-found : (v : Option ℕ) (a b c d : ℕ) → a ≡ b → c ≡ d → _≡_ {A = Found} (record { value = v; looked = a; unsettled = c }) (record { value = v; looked = b; unsettled = d })
+pub same-found : (v : Option ℕ) (a b c d : ℕ) → a ≡ b → c ≡ d → _≡_ {A = Found} (record { value = v; looked = a; unsettled = c }) (record { value = v; looked = b; unsettled = d })
 same-found v a b c d p q = ap₂ (λ s t. record { value = v; looked = s; unsettled = t }) p q
 
 pub after-none : (r : Found) → after 0 0 r ≡ r

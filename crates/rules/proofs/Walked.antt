@@ -139,6 +139,20 @@ module _ (t : List Node) (ways : Ways) (ins reps : List ℕ) (legal : AllLegal t
         let w = both-walked 0 (1 + length bs) σ (p .0) (r .after) x (both-walked 1 (length bs) (p .0) (q .0) (r .after) y z) f in
         record { fine = w .fine; few = w .few; asks = omega (arith, w .asks); looks = w .looks })))
 
+-- ---- the last question
+module _ (m : Model) (how : Mode) (legal : AllLegal (m .table)) where
+  abbrev Spends : St → St × ℕ → Type 0
+  Spends σ p = Goes (m .table) (waysOf m how) (m .inputs) (m .replies) legal 1 σ (p .0)
+
+  pub last-walked : (σ : St) (bs : List ℕ) → If (λ p. Goes (m .table) (waysOf m how) (m .inputs) (m .replies) legal 1 σ (p .0)) (lastQuestion m how σ bs)
+  unfolding lastQuestion
+  last-walked σ [] = none-walked (m .table) (waysOf m how) (m .inputs) (m .replies) legal 1 σ
+  last-walked σ (b ∷ []) =
+      if-bind (Spends σ) (Spends σ) (ask (length (m .replies)) σ 2 b 0 []) _ (ask-walked (m .table) (waysOf m how) (m .inputs) (m .replies) legal σ 2 b 0 []) (λ p h. h)
+  last-walked σ (b ∷ b′ ∷ bs) =
+      if-bind (Spends σ) (Spends σ) (ask (length (m .replies)) σ 5 (length (b ∷ b′ ∷ bs)) 0 (b ∷ b′ ∷ bs)) _
+      (ask-walked (m .table) (waysOf m how) (m .inputs) (m .replies) legal σ 5 (length (b ∷ b′ ∷ bs)) 0 (b ∷ b′ ∷ bs)) (λ p h. h)
+
 -- ---- the whole
 module _ (m : Model) (how : Mode) (wf : WellFormed m) where
   abbrev pub FineEnd : St → Type 0
@@ -156,14 +170,6 @@ module _ (m : Model) (how : Mode) (wf : WellFormed m) where
   judged : (solver terminate : Bool) (section : ℕ) (σ : St) (bs : List ℕ) → All (BadEntry (m .table)) bs → If (λ r. Goes! (length bs) σ (r .after)) (bads m how solver terminate section σ bs)
   judged solver terminate section σ bs h = bads-walked (m .table) (waysOf m how) (m .inputs) (m .replies) (wf .nodes) solver terminate section 0 σ bs h
 
-  last-walked : (σ : St) (bs : List ℕ) → If (λ p. Goes! 1 σ (p .0)) (lastQuestion m how σ bs)
-  unfolding lastQuestion
-  last-walked σ [] = none-walked (m .table) (waysOf m how) (m .inputs) (m .replies) (wf .nodes) 1 σ
-  last-walked σ (b ∷ []) = if-bind (λ p. Goes! 1 σ (p .0)) (λ p. Goes! 1 σ (p .0)) (ask (length (m .replies)) σ 2 b 0 []) _ (ask-walked (m .table) (waysOf m how) (m .inputs) (m .replies) (wf .nodes) σ 2 b 0 []) (λ p h. h)
-  last-walked σ (b ∷ b′ ∷ bs) =
-      if-bind (λ p. Goes! 1 σ (p .0)) (λ p. Goes! 1 σ (p .0)) (ask (length (m .replies)) σ 5 (length (b ∷ b′ ∷ bs)) 0 (b ∷ b′ ∷ bs)) _
-      (ask-walked (m .table) (waysOf m how) (m .inputs) (m .replies) (wf .nodes) σ 5 (length (b ∷ b′ ∷ bs)) 0 (b ∷ b′ ∷ bs)) (λ p h. h)
-
   abbrev pub beyond : ℕ
   beyond = length (m .initial) + length (m .later) + 1
 
@@ -171,7 +177,7 @@ module _ (m : Model) (how : Mode) (wf : WellFormed m) where
   unfolding foldBads
   foldBads-walked true σ seqs =
       if-bind (λ r. Goes! (length (m .initial)) σ (r .after)) (λ f. Goes! beyond σ (f .state)) (bads m how false true 3 σ (m .initial)) _ (judged false true 3 σ (m .initial) (wf .initial))
-      (λ i x. if-bind (λ p. Goes! 1 (i .after) (p .0)) (λ f. Goes! beyond σ (f .state)) (lastQuestion m how (i .after) (i .stay)) _ (last-walked (i .after) (i .stay))
+      (λ i x. if-bind (λ p. Goes! 1 (i .after) (p .0)) (λ f. Goes! beyond σ (f .state)) (lastQuestion m how (i .after) (i .stay)) _ (last-walked m how (wf .nodes) (i .after) (i .stay))
       (λ p y. more (length (m .initial) + 1) beyond σ (p .0) (omega arith) (then (length (m .initial)) 1 σ (i .after) (p .0) x y)))
   foldBads-walked false σ seqs =
       if-bind (λ r. Goes! (length (m .initial)) σ (r .after)) (λ f. Goes! beyond σ (f .state)) (bads m how true (how .terminate) 3 σ (m .initial)) _ (judged true (how .terminate) 3 σ (m .initial) (wf .initial))
