@@ -29,3 +29,7 @@ pub mod Copied
 pub mod OnceJoined
 pub mod RunJoined
 pub mod EntryLaws
+pub mod ReadBack
+pub mod Dropped
+pub mod Demand
+pub mod DemandInCode

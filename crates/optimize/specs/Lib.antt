@@ -9,3 +9,4 @@ pub mod Ending
 pub mod Runs
 pub mod LastQuestion
 pub mod Entries
+pub mod Demand

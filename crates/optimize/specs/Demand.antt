@@ -1,0 +1,89 @@
+-- Demand 3 of the three entry points themselves: of the words that an accepted call leaves in the result buffer.
+--     Contract          what the contracts in optimize.rt say of a call and of what it left
+--     after, listIn, worthIn     a result's words read back, section by section
+--     KeepsIn           what is concluded of the words        Demand3OfResult    the demand, with no premise but its own
+-- What is visited, replaced, forwarded, used or dropped "follows from these rules on the call's input": the premises are of the rules' fold.
+-- Assumes nothing.
+use Prim.Native.Nat.{ℕ, _+_, _-_, _*_, _<_}
+use mathlib.Core.Path.{_≡_}
+use mathlib.Core.Bool.{cond}
+use mathlib.Core.List.{List, [], _∷_, _++_}
+use lib.ListN.{length, getD, drop, replicate}
+use lib.Dec.{ltb, eqb}
+use Rattle.btor.specs.Operators.{Reading, bit}
+use Rattle.rules.specs.Refusal.{done}
+use Rattle.rules.specs.Limits.{house}
+use Rattle.rules.specs.Table.{Node, nodeAt}
+use Rattle.rules.specs.Model.{Model}
+use Rattle.rules.specs.Value.{Value, number, worth, value}
+use Rattle.rules.specs.Demand.{NonePassed, Faithful, RepliesHold}
+use Rattle.rules.specs.Call.{Entry, Call, Accepted, outcome, wordsOf, left}
+use Rattle.optimize.specs.declared.walk.Optimized.{Optimized}
+use Rattle.optimize.specs.View.{countOf, nodeOf}
+use Rattle.optimize.specs.Lists.{entriesOf}
+use Rattle.optimize.specs.Entries.{answered}
+
+-- what the contract of an entry point says: r is answered, and Q and S stand in result and scratch
+pub record Contract (entry : Entry) (call : Call) (r : Optimized) (Q S : List ℕ) : Type 0 where
+  pub answer : answered r ≡ left house entry call .answer
+  pub result : Q ≡ left house entry call .result
+  pub scratch : S ≡ left house entry call .scratch
+
+-- ---- a result's words: "rewritten nodes; made constants (sort, number); replacements (node, replacement); the three kept lists", each after its count
+-- the words after a section whose entries have so many words
+abbrev pub after : ℕ → List ℕ → List ℕ
+after width ws = drop (1 + width * countOf ws) ws
+
+abbrev pub constantsOn : List ℕ → List ℕ
+constantsOn Q = after 6 Q
+
+abbrev pub replacementsOn : List ℕ → List ℕ
+replacementsOn Q = after 2 (constantsOn Q)
+
+abbrev pub initialOn : List ℕ → List ℕ
+initialOn Q = after 1 (after 2 (replacementsOn Q))
+
+abbrev pub laterOn : List ℕ → List ℕ
+laterOn Q = after 1 (initialOn Q)
+
+-- the list that stands first in the words
+abbrev pub listIn : List ℕ → List ℕ
+listIn ws = entriesOf ws 1 (countOf ws)
+
+-- how often b is listed
+unfoldable pub times : ℕ → List ℕ → ℕ
+times b [] = 0
+times b (x ∷ xs) = bit (eqb b x) + times b xs
+
+-- ---- what a number in the result stands for: a node's value in the given table, or "a made constant its number"
+unfoldable pub worthIn : Reading → List Node → (ℕ → Value) → List ℕ → ℕ → Value
+worthIn how t α Q r = cond (ltb r (length t)) (value how (nodeAt t) α r) (number (getD (constantsOn Q) (2 + 2 * (r - length t)) 0))
+
+-- "each visited node's rewritten row has exactly the value that the node has in the given table" (and each other row too), "each replacement has its node's value",
+-- "and the condition of each dropped bad state is 0 in the given table": of each that the kept list has fewer times than the given one
+pub record KeepsIn (how : Reading) (m : Model) (Q : List ℕ) (α : ℕ → Value) : Type 0 where
+  pub nodes : countOf Q ≡ length (m .table)
+  pub rows : (k : ℕ) → k < length (m .table) → worth how (worthIn how (m .table) α Q) (α k) (nodeOf Q k) ≡ value how (nodeAt (m .table)) α k
+  pub replacements : (i : ℕ) → i < countOf (replacementsOn Q)
+      → worthIn how (m .table) α Q (getD (replacementsOn Q) (2 + 2 * i) 0) ≡ value how (nodeAt (m .table)) α (getD (replacementsOn Q) (1 + 2 * i) 0)
+  pub initial : (b : ℕ) → times b (listIn (initialOn Q)) < times b (m .initial) → value how (nodeAt (m .table)) α (nodeAt (m .table) b .a) ≡ number 0
+  pub later : (b : ℕ) → times b (listIn (laterOn Q)) < times b (m .later) → value how (nodeAt (m .table)) α (nodeAt (m .table) b .a) ≡ number 0
+
+-- "no forwarded read passed a write with an unsettled address", and each used reply holds whatever the assignment
+abbrev pub Presumed : Accepted → Type 0
+Presumed a =
+    NonePassed (a .how .reading) (a .folded)
+    × ((α : ℕ → Value) → Faithful (a .how .reading) (a .model .table) (a .model .sequentials) (a .folded .state) α → RepliesHold (a .how .reading) (a .model .table) α (a .folded .state))
+
+-- a call that answered `Done count` is one that the rules accept, the result holds the rules' words and zeros after them, and they keep the values
+pub record Kept (entry : Entry) (call : Call) (count : ℕ) (Q : List ℕ) : Type 0 where
+  pub accepted : Accepted
+  pub follows : outcome house entry call ≡ done accepted
+  pub counted : count ≡ length (wordsOf accepted)
+  pub words : Q ≡ wordsOf accepted ++ replicate (call .resultRoom - length (wordsOf accepted)) 0
+  pub keeps : Presumed accepted → (α : ℕ → Value)
+      → Faithful (accepted .how .reading) (accepted .model .table) (accepted .model .sequentials) (accepted .folded .state) α
+      → KeepsIn (accepted .how .reading) (accepted .model) Q α
+
+unfoldable pub Demand3OfResult : Type 0
+Demand3OfResult = (entry : Entry) (call : Call) (count : ℕ) (Q S : List ℕ) → Contract entry call (Optimized.Done count) Q S → Kept entry call count Q
