@@ -1,4 +1,4 @@
-// Random tables: small, of every kind, sort and mode, mostly accepted; and damaged ones.
+// Random tables of every kind, sort and mode, mostly accepted.
 
 use crate::random::Random;
 use crate::table::*;
@@ -330,105 +330,6 @@ impl Draft<'_> {
         [self.table.initial_bads, self.table.sequential_bads] = lists;
         if self.random.chance(1, 4) {
             self.table.sequentials.reverse();
-        }
-    }
-}
-
-// The numbers of the table after one or two damages.
-pub fn damaged(random: &mut Random, mut table: Table) -> Vec<u64> {
-    let mut of_words = 0;
-    for _ in 0..1 + random.below(2) {
-        if random.chance(3, 4) {
-            damage_table(random, &mut table);
-        } else {
-            of_words += 1;
-        }
-    }
-    let mut words = table.numbers();
-    for _ in 0..of_words {
-        damage_words(random, &table, &mut words);
-    }
-    words
-}
-
-fn damage_table(random: &mut Random, table: &mut Table) {
-    let nodes = table.nodes.len() as u64;
-    let at = random.below(nodes);
-    let row = &mut table.nodes[at as usize];
-    let lists = [&mut table.sequentials, &mut table.initial_bads, &mut table.sequential_bads];
-    match random.below(12) {
-        0 => row.kind = random.below(25),
-        1 => row.sort = random.pick(&[0, 1, 2, 3, 4, 10, 11, 17, 18, (1 << 32) + 2]),
-        2 => row.words[random.below(3) as usize] = random.pick(&[1, nodes, u64::MAX]),
-        3 => {
-            let operands = row.operands().len() as u64;
-            if operands > 0 {
-                row.words[random.below(operands) as usize] = at + random.below(2);
-            }
-        }
-        4 | 5 => {
-            let operands = row.operands().len() as u64;
-            if operands > 0 {
-                row.words[random.below(operands) as usize] = random.below(at.max(1));
-            }
-        }
-        6 => row.name = random.pick(&[0, 1, table.names.len() as u64 + 1, u64::MAX]),
-        7 => {
-            let entry = random.pick(&[at, at, nodes, u64::MAX]);
-            lists.into_iter().nth(random.below(3) as usize).unwrap().push(entry);
-        }
-        8 => table.names.push(vec![b'x' as u64; random.pick(&[64, 65])]),
-        9 => table.sequentials.extend(table.sequentials.first().copied()),
-        10 => {
-            // Another Next of a listed State, listed too.
-            if let Some(entry) = table.sequentials.first().copied() {
-                let row = table.nodes[(entry % nodes) as usize].clone();
-                table.nodes.push(row);
-                table.sequentials.push(nodes);
-            }
-        }
-        _ => {
-            // A listed State without its init.
-            if let Some(entry) = table.sequentials.first() {
-                let state = table.nodes[(entry % nodes) as usize].words[0];
-                table.nodes[(state % nodes) as usize].words[..2].fill(0);
-            }
-        }
-    }
-}
-
-fn damage_words(random: &mut Random, table: &Table, words: &mut Vec<u64>) {
-    if words.is_empty() {
-        return;
-    }
-    let at = random.below(words.len() as u64) as usize;
-    match random.below(8) {
-        0 => words[0] = 8 + random.below(3),
-        1 => drop(words.remove(at)),
-        2 => words.truncate(at),
-        3 => words.extend([0, 1, 2].into_iter().take(1 + random.below(3) as usize)),
-        4 => words.insert(at, random.below(4)),
-        5 => {
-            // The count of a section, as far as it still stands where the table has it.
-            let mut counts = vec![1, 2 + 6 * table.nodes.len()];
-            for list in [
-                &table.sequentials,
-                &table.initial_bads,
-                &table.sequential_bads,
-                &table.inputs,
-                &table.replies,
-            ] {
-                counts.push(counts[counts.len() - 1] + 1 + list.len());
-            }
-            let Some(count) = words.get_mut(random.pick(&counts)) else { return };
-            let above = count.wrapping_add(1);
-            let below = count.wrapping_sub(1);
-            *count = random.pick(&[above, below, 1024, 1025, 4096, 4097, 16384, 16385, 1 << 63]);
-        }
-        _ => {
-            let word = words[at];
-            let changed = [0, 1, 64, 65, 256, word ^ 1, word ^ (1 << 32), random.word(), u64::MAX];
-            words[at] = random.pick(&changed);
         }
     }
 }

@@ -33,8 +33,9 @@ const PASSED: usize = 3;
 
 // What the plain run gives, and from a run with markers the two counts of writes.
 pub fn answer(table: &Table) -> Result<Sections, Refusal> {
-    let plain = run(table, false);
-    let mut marked = run(table, true);
+    let refused = |(panic, run): Ended| refusal_of(panic, table, &run);
+    let plain = run(table, false, true).map_err(refused);
+    let mut marked = run(table, true, true).map_err(refused);
     let counted = marked.clone();
     if let Ok(sections) = &mut marked {
         sections[8][LOOKED_AT] = 0;
@@ -44,9 +45,23 @@ pub fn answer(table: &Table) -> Result<Sections, Refusal> {
     counted
 }
 
+// What the plain run gives where no input is judged, without the two counts of writes; or the text of its panic.
+pub fn unjudged(table: &Table) -> Result<Sections, String> {
+    let ended = catch_unwind(|| run(table, false, false));
+    ended.unwrap_or_else(|panic| Err((panic, Run::default()))).map_err(|(panic, _)| {
+        let text = panic.downcast_ref::<&str>().map(|text| text.to_string());
+        let text = text.or_else(|| panic.downcast_ref::<String>().cloned());
+        text.unwrap_or("a reply that its question cannot have".to_string())
+    })
+}
+
+// A panic, and what was noted until then.
+type Ended = (Box<dyn Any + Send>, Run);
+
 // What the listener and the solver note during a run.
 #[derive(Default)]
 struct Run {
+    judges_inputs: bool,
     nodes: Vec<NodeRef>,
     markers: Vec<Option<NodeRef>>,
     sorts: Vec<u64>,
@@ -80,7 +95,7 @@ fn with_run<T>(f: impl FnOnce(&mut Run) -> T) -> T {
     RUN.with(|run| f(&mut run.borrow_mut()))
 }
 
-fn run(table: &Table, marked: bool) -> Result<Sections, Refusal> {
+fn run(table: &Table, marked: bool, judges_inputs: bool) -> Result<Sections, Ended> {
     let (nodes, markers) = build(table, marked);
     let listed = |list: &[u64]| list.iter().map(|entry| nodes[*entry as usize].clone()).collect();
     let mut model = Model {
@@ -96,7 +111,7 @@ fn run(table: &Table, marked: bool) -> Result<Sections, Refusal> {
     let mut inputs = table.inputs.clone();
     let sorts = table.nodes.iter().map(|row| row.sort).collect();
     let replies = table.replies.clone();
-    let fresh = Run { nodes, markers, sorts, replies, ..Run::default() };
+    let fresh = Run { judges_inputs, nodes, markers, sorts, replies, ..Run::default() };
     let bit = |value| table.mode & value != 0;
 
     with_run(|run| *run = fresh);
@@ -109,7 +124,7 @@ fn run(table: &Table, marked: bool) -> Result<Sections, Refusal> {
     let run = with_run(std::mem::take);
     match ended {
         Ok(()) => Ok(sections(table, &run, &model, inputs)),
-        Err(panic) => Err(refusal_of(panic, table, &run)),
+        Err(panic) => Err((panic, run)),
     }
 }
 
@@ -207,7 +222,7 @@ pub fn is_refusal(panic: &(dyn Any + Send)) -> bool {
 // A message of the published Rust.
 fn hear(text: &str) {
     with_run(|run| {
-        if text.starts_with("Specializing to concrete input STATE(") {
+        if run.judges_inputs && text.starts_with("Specializing to concrete input STATE(") {
             let (_, input) = text.rsplit_once(" -> ").expect("an input");
             run.judge_input(input.parse().expect("a number"));
         } else if text == "Folding OR(zeroes,x) -> x" {

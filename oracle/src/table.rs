@@ -67,6 +67,10 @@ pub const MOST_REPLIES: u64 = 16384;
 pub const MOST_NAMES: u64 = 4096;
 pub const LONGEST_NAME: u64 = 64;
 
+// The limits of sections 1 to 7.
+pub const LIMITS: [u64; 7] =
+    [MOST_NODES, MOST_ENTRIES, MOST_ENTRIES, MOST_ENTRIES, MOST_INPUTS, MOST_REPLIES, MOST_NAMES];
+
 // The bits of a sort other than memory; nothing for a word that is no such sort.
 pub fn width(sort: u64) -> Option<u64> {
     match sort {
@@ -97,10 +101,19 @@ impl Row {
 
 impl Table {
     pub fn read(text: &[u8]) -> Result<Table, Refusal> {
+        let table = Table::cut(text)?;
+        table.judge_room()?;
+        table.judge_nodes()?;
+        table.judge_lists()?;
+        Ok(table)
+    }
+
+    // The table of a text, with neither room nor nodes nor lists judged.
+    pub fn cut(text: &[u8]) -> Result<Table, Refusal> {
         let numbers = numbers(text)?;
         let mut rest = &numbers[1..];
         let nodes = section(&mut rest, 1, MOST_NODES, 6)?;
-        let table = Table {
+        Ok(Table {
             mode: numbers[0],
             nodes: (nodes.chunks(6))
                 .map(|w| Row { kind: w[0], sort: w[1], words: [w[2], w[3], w[4]], name: w[5] })
@@ -111,11 +124,7 @@ impl Table {
             inputs: section(&mut rest, 5, MOST_INPUTS, 1)?,
             replies: section(&mut rest, 6, MOST_REPLIES, 1)?,
             names: names(rest)?,
-        };
-        table.judge_room()?;
-        table.judge_nodes()?;
-        table.judge_lists()?;
-        Ok(table)
+        })
     }
 
     pub fn numbers(&self) -> Vec<u64> {
@@ -125,13 +134,7 @@ impl Table {
             out.extend(row.words);
             out.push(row.name);
         }
-        for list in [
-            &self.sequentials,
-            &self.initial_bads,
-            &self.sequential_bads,
-            &self.inputs,
-            &self.replies,
-        ] {
+        for list in self.lists() {
             out.push(list.len() as u64);
             out.extend(list);
         }
@@ -143,11 +146,30 @@ impl Table {
         out
     }
 
-    fn judge_room(&self) -> Result<(), Refusal> {
+    // Sections 2 to 6.
+    fn lists(&self) -> [&Vec<u64>; 5] {
+        let bads = [&self.initial_bads, &self.sequential_bads];
+        [&self.sequentials, bads[0], bads[1], &self.inputs, &self.replies]
+    }
+
+    // Where the counts of sections 1 to 7 stand among the numbers.
+    pub fn counts(&self) -> [usize; 7] {
+        let mut counts = [1; 7];
+        counts[1] = 2 + 6 * self.nodes.len();
+        for (at, list) in self.lists().into_iter().enumerate() {
+            counts[at + 2] = counts[at + 1] + 1 + list.len();
+        }
+        counts
+    }
+
+    // The words that result and scratch need.
+    pub fn need(&self) -> usize {
         let bads = self.initial_bads.len() + self.sequential_bads.len();
-        let need =
-            22 * self.nodes.len() + 5 * bads + self.sequentials.len() + self.inputs.len() + 22;
-        if need > MOST_RESULT_WORDS {
+        22 * self.nodes.len() + 5 * bads + self.sequentials.len() + self.inputs.len() + 22
+    }
+
+    fn judge_room(&self) -> Result<(), Refusal> {
+        if self.need() > MOST_RESULT_WORDS {
             return Err(refusal(12, 8, 0));
         }
         Ok(())
@@ -237,10 +259,15 @@ impl Table {
     }
 }
 
+// What stands between blanks: spaces, tabs, carriage returns and line feeds.
+pub fn tokens(text: &[u8]) -> impl Iterator<Item = &[u8]> {
+    text.split(|byte| b" \t\r\n".contains(byte)).filter(|token| !token.is_empty())
+}
+
 // The numbers of the text, the first of them a mode.
 fn numbers(text: &[u8]) -> Result<Vec<u64>, Refusal> {
     let mut numbers = Vec::new();
-    for token in text.split(|byte| b" \t\r\n".contains(byte)).filter(|token| !token.is_empty()) {
+    for token in tokens(text) {
         let place = numbers.len();
         if place == MOST_NUMBERS {
             return Err(refusal(2, 0, place as u64));

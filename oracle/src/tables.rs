@@ -1,20 +1,17 @@
 // Whole tables: their answers by the published Rust, and random cases.
 //     tables answer                        a case a line on standard input, an answer a line
+//     tables unjudged                      the same, with no refusal but 1 and 2: what the Rust does by itself
 //     tables random SEED COUNT [NODES]     cases, mostly accepted, of at most NODES nodes (14)
 //     tables damaged SEED COUNT [NODES]    the same with one or two damages each
 
-mod cases;
-mod fold;
-mod graph;
-mod making;
-mod random;
-mod table;
-
-use random::Random;
+use judge::answer::{answer, hide_refusals, lines};
+use judge::random::Random;
+use judge::table::Table;
+use judge::{cases, damages, fold};
 use std::io::{self, BufRead, Write};
-use table::Table;
 
 const USAGE: &str = "usage: tables answer
+       tables unjudged
        tables random SEED COUNT [NODES]
        tables damaged SEED COUNT [NODES]";
 
@@ -22,9 +19,16 @@ fn main() -> io::Result<()> {
     let arguments: Vec<String> = std::env::args().skip(1).collect();
     let words: Vec<&str> = arguments.iter().map(String::as_str).collect();
     match words[..] {
-        ["answer"] => answer(),
+        ["answer"] => {
+            hide_refusals();
+            answer_lines(|case| lines(&answer(case)).join(" "))
+        }
+        ["unjudged"] => {
+            std::panic::set_hook(Box::new(|_| ()));
+            answer_lines(unjudged)
+        }
         ["random", ref numbers @ ..] => print_cases(numbers, |_, table| table.numbers()),
-        ["damaged", ref numbers @ ..] => print_cases(numbers, cases::damaged),
+        ["damaged", ref numbers @ ..] => print_cases(numbers, damages::damaged),
         _ => usage(),
     }
 }
@@ -53,32 +57,20 @@ fn print_cases(arguments: &[&str], numbers: fn(&mut Random, Table) -> Vec<u64>) 
     out.flush()
 }
 
-fn answer() -> io::Result<()> {
-    let usual = std::panic::take_hook();
-    std::panic::set_hook(Box::new(move |panic| {
-        if !fold::is_refusal(panic.payload()) {
-            usual(panic);
-        }
-    }));
+fn answer_lines(answered: fn(&[u8]) -> String) -> io::Result<()> {
     let mut out = io::BufWriter::new(io::stdout().lock());
     for line in io::stdin().lock().split(b'\n') {
-        match Table::read(&line?).and_then(|table| fold::answer(&table)) {
-            Ok(sections) => {
-                write!(out, "accepted")?;
-                for (section, width) in sections.iter().zip([6, 2, 2, 1, 1, 1, 1, 4, 1]) {
-                    write!(out, " {}", section.len() / width)?;
-                    for word in section {
-                        write!(out, " {word}")?;
-                    }
-                }
-                writeln!(out)?;
-            }
-            Err(refused) => writeln!(
-                out,
-                "refused {} {} {}",
-                refused.number, refused.section, refused.position
-            )?,
-        }
+        writeln!(out, "{}", answered(&line?))?;
     }
     out.flush()
+}
+
+fn unjudged(case: &[u8]) -> String {
+    match Table::cut(case) {
+        Err(refused) => lines(&Err(refused)).join(" "),
+        Ok(table) => match fold::unjudged(&table) {
+            Ok(sections) => lines(&Ok(sections)).join(" "),
+            Err(message) => format!("panicked: {message}"),
+        },
+    }
 }

@@ -1,0 +1,50 @@
+// A text's answer: refusals 1 to 7 and 12 by document 01, all else by the published Rust; and how the program prints it.
+
+use crate::fold::{self, Sections};
+use crate::table::{Refusal, Table};
+
+pub type Answer = Result<Sections, Refusal>;
+
+const WIDTHS: [usize; 9] = [6, 2, 2, 1, 1, 1, 1, 4, 1];
+
+pub fn answer(text: &[u8]) -> Answer {
+    Table::read(text).and_then(|table| fold::answer(&table))
+}
+
+// The lines that the program prints, without their ends.
+pub fn lines(answer: &Answer) -> Vec<String> {
+    match answer {
+        Ok(sections) => {
+            let sections = sections.iter().zip(WIDTHS);
+            let printed = sections.map(|(section, width)| line(section, width));
+            std::iter::once("accepted".to_string()).chain(printed).collect()
+        }
+        Err(refused) => {
+            vec![format!("refused {} {} {}", refused.number, refused.section, refused.position)]
+        }
+    }
+}
+
+// What the program prints, each line ended by a line feed.
+pub fn printed(answer: &Answer) -> Vec<u8> {
+    let mut out = lines(answer).join("\n");
+    out.push('\n');
+    out.into_bytes()
+}
+
+// A section after its count, with `width` words for each that is counted.
+fn line(section: &[u64], width: usize) -> String {
+    let count = section.len() / width;
+    let words = std::iter::once(count as u64).chain(section.iter().copied());
+    words.map(|word| word.to_string()).collect::<Vec<_>>().join(" ")
+}
+
+// No message for a panic that stands for a refusal.
+pub fn hide_refusals() {
+    let usual = std::panic::take_hook();
+    std::panic::set_hook(Box::new(move |panic| {
+        if !fold::is_refusal(panic.payload()) {
+            usual(panic);
+        }
+    }));
+}

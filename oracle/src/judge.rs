@@ -1,0 +1,14 @@
+// The judge as a library: cases of every sort, and their answers by the published Rust.
+
+pub mod answer;
+pub mod cases;
+pub mod damages;
+pub mod features;
+pub mod fold;
+pub mod graph;
+pub mod making;
+pub mod mix;
+pub mod random;
+pub mod table;
+pub mod texts;
+pub mod varied;

@@ -1,0 +1,11 @@
+// The program of document 01 as the published Rust would answer it: a text on standard input, its answer on standard output.
+
+use judge::answer::{answer, hide_refusals, printed};
+use std::io::{self, Read, Write};
+
+fn main() -> io::Result<()> {
+    hide_refusals();
+    let mut text = Vec::new();
+    io::stdin().lock().read_to_end(&mut text)?;
+    io::stdout().lock().write_all(&printed(&answer(&text)))
+}
