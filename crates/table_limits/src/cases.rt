@@ -11,7 +11,7 @@ use tables::label::label;
 use tables::refusal::Refusal;
 
 // The most bytes: 4,096 names of 64 bytes, and some over.
-const BYTES: usize = 266300;
+pub const BYTES: usize = 266300;
 
 pub enum Outcome {
     Right,
@@ -20,12 +20,12 @@ pub enum Outcome {
 }
 
 // How many bytes some numbers are.
-enum Copied {
+pub enum Copied {
     Bytes(usize),
     NoBytes,
 }
 
-fn copy_bytes(numbers: &[u64], bytes: &mut [u8; BYTES]) -> Copied {
+pub fn copy_bytes(numbers: &[u64], bytes: &mut [u8; BYTES]) -> Copied {
     let mut i = 0;
     while i < numbers.len() {
         let number = numbers[i];
@@ -49,7 +49,7 @@ fn first_of(bytes: &[u8], count: usize) -> &[u8] {
     &bytes[0..count]
 }
 
-fn first_bytes(bytes: &[u8; BYTES], count: usize) -> &[u8] {
+pub fn first_bytes(bytes: &[u8; BYTES], count: usize) -> &[u8] {
     first_of(bytes, count)
 }
 
@@ -67,7 +67,7 @@ fn same_bytes(bytes: &[u8], numbers: &[u64]) -> bool {
     true
 }
 
-fn right_or_wrong(right: bool) -> Outcome {
+pub fn right_or_wrong(right: bool) -> Outcome {
     if right {
         Outcome::Right
     } else {
@@ -75,7 +75,7 @@ fn right_or_wrong(right: bool) -> Outcome {
     }
 }
 
-fn is_refused_by(why: Refusal, number: u64, section: u64, position: u64) -> bool {
+pub fn is_refused_by(why: Refusal, number: u64, section: u64, position: u64) -> bool {
     why.number() == number && why.section() == section && why.position() as u64 == position
 }
 

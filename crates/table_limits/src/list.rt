@@ -1,5 +1,6 @@
 // The lines of the list. A line is a case: its name, then numbers in parts, with `|` between the parts and a line end after the last.
 // `4(1 2)` stands for 1 2 1 2 1 2 1 2, and `(1 2)` for 1 2; in brackets `7+2` is 7 the first time, and grows by 2 from each time to the next.
+use crate::calls;
 use crate::cases;
 use crate::cases::Outcome;
 use crate::numbers;
@@ -171,21 +172,26 @@ impl Replay {
         self
     }
 
-    // Four parts are a call to be judged, five a label.
+    // Four parts are a call to be judged; five a label, if the first has one number, or a whole call.
     fn try_case(self, numbers: &[u64; ROOM]) -> Outcome {
         let parts = self.parts;
         match parts {
             4 => cases::judged(numbers, self.first, self.second, self.third, self.filled),
-            5 => cases::labelled(
-                numbers,
-                self.first,
-                self.second,
-                self.third,
-                self.fourth,
-                self.filled,
-            ),
+            5 => self.try_five_parts(numbers),
             _ => Outcome::NoCase,
         }
+    }
+
+    fn try_five_parts(self, numbers: &[u64; ROOM]) -> Outcome {
+        let head = self.first;
+        let words = self.second;
+        let names = self.third;
+        let fourth = self.fourth;
+        let end = self.filled;
+        if head == 1 {
+            return cases::labelled(numbers, head, words, names, fourth, end);
+        }
+        calls::called(numbers, head, words, names, fourth, end)
     }
 
     fn counted(self, wrong: u64) -> Self {

@@ -1,4 +1,6 @@
-// Replays the kept cases of calls and labels, data/limits.list, and prints how many there are and how many answers differ.
+// Replays the kept cases, and prints how many there are and how many answers differ: calls judged and labels of
+// data/limits.list, and whole calls of data/calls.list.
+mod calls; // calls.rt: a whole call, with every word that it leaves
 mod cases; // cases.rt: what a case is, and whether its answer is given
 mod list; // list.rt: the lines of the list
 mod numbers; // numbers.rt: the numbers of a line
@@ -58,10 +60,10 @@ fn report(run: Replay) {
     io::write_all(STDOUT_FILENO, b" wrong\n");
 }
 
-fn main() {
-    let file = os::open_read(b"limits.list");
+fn replay(name: &[u8]) {
+    let file = os::open_read(name);
     if file < 0 {
-        os::fail(b"limits.list");
+        os::fail(name);
         return;
     }
     let last = read_list(file);
@@ -70,7 +72,12 @@ fn main() {
         Turn::End(run) => report(run),
         Turn::More(run) => report(run),
         Turn::Failed => {
-            os::fail(b"limits.list");
+            os::fail(name);
         }
     }
+}
+
+fn main() {
+    replay(b"limits.list");
+    replay(b"calls.list");
 }

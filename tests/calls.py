@@ -1,0 +1,526 @@
+#!/usr/bin/env python3
+"""Whole calls of the three entry points, each with every word that document 01 has it leave.
+
+    tests/calls.py list                 the kept list, crates/table_limits/data/calls.list
+    tests/calls.py compare PROGRAM      the calls that fit the text form, answered by `PROGRAM answer` (oracle/README.md)
+
+Nothing here folds a table: every answer is written beside its case.
+"""
+import subprocess
+import sys
+
+from limits import (ADD, AND, BAD, BIT, BYTE, CONST, DIV, EQ, EXT, INPUT, ITE, MEMORY, MOST, MUL, NEXT, NOT, OR, READ,
+                    REM, ROOM, SLL, STATE, SUB, ULT, WORD, WRITE, Group, flat, in_text_form, names_of, need, node,
+                    sections, size, text)
+
+IMPL, WITH_SOLVER, WITH_INPUT = range(3)
+ENTRIES = {'impl': IMPL, 'with_solver': WITH_SOLVER, 'with_input': WITH_INPUT}
+MINIMISE, TERMINATE, ONE_QUERY = 1, 2, 4
+NOT_ONE_QUERY, FOUND, NOT_FOUND, REMOVED_ALL = range(4)
+ALWAYS_TRUE, ALWAYS_FALSE, EQUAL, SATISFIABLE, SEVERAL_FALSE = range(1, 6)
+
+calls = []
+
+
+def whole(name, words, answer, names=(0, 0), mode=0, entry=IMPL, result=None, scratch=None):
+    """A call with as much room as it needs, where no other is said. The answer is a refusal or the words of the result."""
+    words, answer = list(words), answer
+    room = min(need(flat(words)), ROOM) if result is None or scratch is None else 0
+    calls.append((name, entry, mode, room if result is None else result, room if scratch is None else scratch, words,
+                  list(names), answer))
+
+
+def refused(number, section, position):
+    return number, section, position
+
+
+def entries(items, width):
+    """A section of tuples and groups, after its count."""
+    words = [word for item in items for word in ([item] if isinstance(item, Group) else item)]
+    return [size(words) // width] + words
+
+
+def left(nodes, made=(), replaced=(), sequentials=(), bads=(), later=(), inputs=(), questions=(), taken=0, used=0,
+         looked=0, passed=0, verdict=NOT_ONE_QUERY):
+    """The words of a result. Made constants are (sort, number), replacements (node, replacement), questions (kind,
+    first, second, reply); the two shared constants and the tally's count are added."""
+    words = [size(nodes) // 6] + list(nodes) + entries([(1, 0), (1, 1)] + list(made), 2) + entries(replaced, 2)
+    for part in (sequentials, bads, later, inputs):
+        words += [size(part)] + list(part)
+    return words + entries(questions, 4) + [5, taken, used, looked, passed, verdict]
+
+
+# --- the worked example
+
+EXAMPLE = [node(STATE, WORD, name=1), node(CONST, WORD, 12), node(ULT, BIT, 0, 1), node(BAD, BIT, 2)]
+HOLD_END = names_of(list(b'hold-end'))
+whole('the_worked_example', sections(EXAMPLE, bads=[3], inputs=[12]),
+      left([node(STATE, WORD, name=1), node(CONST, WORD, 12), node(ULT, BIT, 6, 1), node(BAD, BIT, 4)],
+           made=[(WORD, 12)], replaced=[(0, 6), (2, 4)], taken=1), HOLD_END)
+whole('the_worked_example_by_with_input', sections(EXAMPLE, bads=[3], inputs=[12]),
+      left([node(STATE, WORD, name=1), node(CONST, WORD, 12), node(ULT, BIT, 6, 1), node(BAD, BIT, 4)],
+           made=[(WORD, 12)], replaced=[(0, 6), (2, 4)], taken=1), HOLD_END, entry=WITH_INPUT)
+whole('the_worked_example_by_with_solver', sections(EXAMPLE, bads=[3], inputs=[12]),
+      left(EXAMPLE, bads=[3], questions=[(SATISFIABLE, 2, 0, 0)]), HOLD_END, entry=WITH_SOLVER)
+for number, more in ((11, {'bads': [3]}), (13, {})):
+    # below the noon 12 the bad is reached, above it is not
+    whole('the_worked_example_at_%d' % number, sections(EXAMPLE, bads=[3], inputs=[number]),
+          left([node(STATE, WORD, name=1), node(CONST, WORD, 12), node(ULT, BIT, 6, 1),
+                node(BAD, BIT, 5 if number < 12 else 4)],
+               made=[(WORD, number)], replaced=[(0, 6), (2, 5 if number < 12 else 4)], taken=1, **more), HOLD_END)
+whole('the_worked_example_at_11_under_terminate', sections(EXAMPLE, bads=[3], inputs=[11]), refused(13, 3, 0), HOLD_END,
+      TERMINATE)
+
+# --- two constants: 0 and 1 fold in 2, which is the next value of 3
+
+
+def folded(name, kind, x, y, value, sort=WORD):
+    nodes = [node(CONST, sort, x), node(CONST, sort, y), node(kind, sort, 0, 1), node(STATE, sort, 0, 1)]
+    for entry_name, entry in ENTRIES.items():
+        whole('%s_by_%s' % (name, entry_name), sections(nodes + [node(NEXT, sort, 3, 2)], [4]),
+              left(nodes + [node(NEXT, sort, 3, 7)], made=[(WORD, value)], replaced=[(2, 7)], sequentials=[4]),
+              entry=entry)
+
+
+folded('add_most_and_1_is_0', ADD, MOST, 1, 0)
+folded('sub_0_and_1_is_most', SUB, 0, 1, MOST)
+folded('mul_2^32_and_2^32_is_0', MUL, 2**32, 2**32, 0)
+folded('div_-7_by_2_is_-3', DIV, 2**64 - 7, 2, 2**64 - 3)
+folded('div_5_by_0', DIV, 5, 0, 2**63 - 1)
+folded('div_least_by_-1', DIV, 2**63, MOST, 2**63 - 1)
+folded('rem_5_by_0_is_most', REM, 5, 0, MOST)
+folded('sll_1_by_63', SLL, 1, 63, 2**63)
+folded('sll_1_by_64_is_0', SLL, 1, 64, 0)
+folded('byte_and_3_and_5_is_a_word', AND, 3, 5, 1, BYTE)
+
+BYTE_NOT = [node(CONST, BYTE, 0), node(NOT, BYTE, 0), node(STATE, BYTE, 0, 1)]
+for entry_name, entry in ENTRIES.items():
+    whole('byte_not_0_is_255_by_%s' % entry_name, sections(BYTE_NOT + [node(NEXT, BYTE, 2, 1)], [3]),
+          left(BYTE_NOT + [node(NEXT, BYTE, 2, 6)], made=[(BYTE, 255)], replaced=[(1, 6)], sequentials=[3]),
+          entry=entry)
+
+for x, holds in ((12, 0), (11, 1), (13, 0)):
+    nodes = [node(CONST, WORD, x), node(CONST, WORD, 12), node(ULT, BIT, 0, 1)]
+    for entry_name, entry in ENTRIES.items():
+        whole('ult_%d_and_12_by_%s' % (x, entry_name), sections(nodes + [node(BAD, BIT, 2)], later=[3]),
+              left(nodes + [node(BAD, BIT, 4 + holds)], replaced=[(2, 4 + holds)], later=[3] * holds), entry=entry)
+
+# --- write 7 at 5, write 9 at an Input, read 5
+
+MEMORY_NODES = [
+    node(INPUT, MEMORY, name=1), # 0
+    node(CONST, WORD, 5),        # 1
+    node(CONST, WORD, 7),        # 2
+    node(WRITE, MEMORY, 0, 1, 2), # 3
+    node(INPUT, WORD, name=1),   # 4
+    node(CONST, WORD, 9),        # 5
+    node(WRITE, MEMORY, 3, 4, 5), # 6
+    node(READ, WORD, 6, 1),      # 7
+    node(STATE, WORD, 1, 1),     # 8
+]
+A_NAME = names_of([97])
+for entry_name, entry in ENTRIES.items():
+    whole('read_5_past_an_unsettled_write_by_%s' % entry_name, sections(MEMORY_NODES + [node(NEXT, WORD, 8, 7)], [9]),
+          left(MEMORY_NODES + [node(NEXT, WORD, 8, 2)], replaced=[(7, 2)], sequentials=[9], looked=2, passed=1), A_NAME,
+          entry=entry)
+
+# --- a byte's width
+
+whole('byte_255_is_a_const', sections([node(CONST, BYTE, 255)]), left([node(CONST, BYTE, 255)]))
+for entry_name, entry in ENTRIES.items():
+    whole('byte_256_is_no_const_by_%s' % entry_name, sections([node(CONST, BYTE, 256)]), refused(5, 1, 0), entry=entry)
+
+
+def taken_by(sort, last, number):
+    """State 0 takes the input, and is compared with the Const 1, the last number of its sort."""
+    return sections([node(STATE, sort), node(CONST, sort, last), node(EQ, BIT, 0, 1), node(BAD, BIT, 2)], bads=[3],
+                    inputs=[number])
+
+
+for sort, last in ((BYTE, 255), (12, 2**16 - 1), (17, 2**56 - 1), (WORD, MOST)):
+    for entry_name, entry in (('impl', IMPL), ('with_input', WITH_INPUT)):
+        whole('sort_%d_takes_%d_by_%s' % (sort, last, entry_name), taken_by(sort, last, last),
+              left([node(STATE, sort), node(CONST, sort, last), node(EQ, BIT, 6, 1), node(BAD, BIT, 5)],
+                   made=[(sort, last)], replaced=[(0, 6), (2, 5)], bads=[3], taken=1), entry=entry)
+        if sort != WORD:
+            whole('sort_%d_takes_no_%d_by_%s' % (sort, last + 1, entry_name), taken_by(sort, last, last + 1),
+                  refused(10, 1, 0), entry=entry)
+whole('a_bit_takes_1', taken_by(BIT, 1, 1),
+      left([node(STATE, BIT), node(CONST, BIT, 1), node(EQ, BIT, 6, 5), node(BAD, BIT, 5)], made=[(BIT, 1)],
+           replaced=[(0, 6), (1, 5), (2, 5)], bads=[3], taken=1))
+whole('a_bit_takes_no_2', taken_by(BIT, 1, 2), refused(10, 1, 0))
+whole('byte_256_is_not_brought_by_with_solver', taken_by(BYTE, 255, 256),
+      left([node(STATE, BYTE), node(CONST, BYTE, 255), node(EQ, BIT, 0, 1), node(BAD, BIT, 2)], bads=[3],
+           questions=[(SATISFIABLE, 2, 0, 0)]), entry=WITH_SOLVER)
+
+# --- room
+
+EMPTY = sections()
+for entry_name, entry in ENTRIES.items():
+    whole('empty_room_22_by_%s' % entry_name, EMPTY, left([]), entry=entry, result=22, scratch=22)
+    whole('empty_room_23_by_%s' % entry_name, EMPTY, left([]), entry=entry, result=23, scratch=23)
+    whole('empty_result_21_by_%s' % entry_name, EMPTY, refused(12, 8, 0), entry=entry, result=21, scratch=22)
+    whole('empty_scratch_21_by_%s' % entry_name, EMPTY, refused(12, 8, 1), entry=entry, result=22, scratch=21)
+    whole('empty_room_21_by_%s' % entry_name, EMPTY, refused(12, 8, 0), entry=entry, result=21, scratch=21)
+    whole('empty_room_0_by_%s' % entry_name, EMPTY, refused(12, 8, 0), entry=entry, result=0, scratch=0)
+    whole('empty_result_0_by_%s' % entry_name, EMPTY, refused(12, 8, 0), entry=entry, result=0, scratch=ROOM)
+    whole('empty_scratch_0_by_%s' % entry_name, EMPTY, refused(12, 8, 1), entry=entry, result=ROOM, scratch=0)
+    whole('no_words_by_%s' % entry_name, [], refused(1, 1, 0), entry=entry, result=40, scratch=40)
+    whole('no_names_by_%s' % entry_name, EMPTY, refused(1, 7, 0), [], entry=entry, result=40, scratch=40)
+for mode in range(8):
+    whole('empty_mode_%d' % mode, EMPTY, left([], verdict=REMOVED_ALL if mode & ONE_QUERY else NOT_ONE_QUERY), mode=mode)
+for entry_name, entry in (('impl', IMPL), ('with_solver', WITH_SOLVER)):
+    whole('mode_8_by_%s' % entry_name, EMPTY, refused(1, 0, 0), mode=8, entry=entry)
+    whole('mode_most_by_%s' % entry_name, EMPTY, refused(1, 0, 0), mode=MOST, entry=entry)
+
+# A Next that is kept, one that is dropped, a bad in each list, inputs and a reply: 22 * 11 + 5 * 2 + 2 + 2 + 22 words.
+ALL_KINDS = [
+    node(CONST, WORD, 3),       # 0
+    node(STATE, WORD, 0, 1),    # 1
+    node(ADD, WORD, 1, 0),      # 2
+    node(NEXT, WORD, 1, 2),     # 3
+    node(STATE, WORD, 0, 1),    # 4
+    node(NEXT, WORD, 4, 4),     # 5, dropped
+    node(STATE, WORD),          # 6, takes an input
+    node(ULT, BIT, 1, 6),       # 7
+    node(BAD, BIT, 7, name=1),  # 8
+    node(EQ, BIT, 4, 2),        # 9
+    node(BAD, BIT, 9),          # 10
+]
+ALL_LEFT = [
+    node(CONST, WORD, 3),
+    node(STATE, WORD, 0, 1),
+    node(ADD, WORD, 1, 0),
+    node(NEXT, WORD, 1, 2),
+    node(STATE, WORD, 0, 1),
+    node(NEXT, WORD, 4, 4),
+    node(STATE, WORD),
+    node(ULT, BIT, 1, 13),
+    node(BAD, BIT, 7, name=1),
+    node(EQ, BIT, 0, 2),
+    node(BAD, BIT, 9),
+]
+ALL_SECTIONS = sections(ALL_KINDS, [3, 5], [8], [10], [40, 41], [2, 1])
+ALL_NEED = 22 * 11 + 5 * 2 + 2 + 2 + 22
+ALL_RESULT = left(ALL_LEFT, [(WORD, 40)], [(4, 0), (6, 13)], [3], [8], [], [41],
+                  [(SATISFIABLE, 7, 0, 2), (SATISFIABLE, 9, 0, 1)], taken=1, used=2)
+for what, result, scratch, answer in (('room', 0, 0, ALL_RESULT), ('more_room', 1, 1, ALL_RESULT),
+                                      ('result_one_short', -1, 0, refused(12, 8, 0)),
+                                      ('scratch_one_short', 0, -1, refused(12, 8, 1)),
+                                      ('both_one_short', -1, -1, refused(12, 8, 0))):
+    whole('every_section_%s' % what, ALL_SECTIONS, answer, A_NAME, result=ALL_NEED + result, scratch=ALL_NEED + scratch)
+whole('every_section_by_with_solver', ALL_SECTIONS,
+      left(ALL_KINDS[:9] + [node(EQ, BIT, 0, 2), node(BAD, BIT, 9)], [], [(4, 0)], [3], [8], [], [],
+           [(SATISFIABLE, 7, 0, 2), (SATISFIABLE, 9, 0, 1)], used=2), A_NAME, entry=WITH_SOLVER)
+whole('every_section_by_with_input', ALL_SECTIONS,
+      left(ALL_LEFT, [(WORD, 40)], [(4, 0), (6, 13)], [3], [8], [10], [41],
+           [(SATISFIABLE, 7, 0, 0), (SATISFIABLE, 9, 0, 0)], taken=1), A_NAME, entry=WITH_INPUT)
+for entry_name, entry in (('with_solver', WITH_SOLVER), ('with_input', WITH_INPUT)):
+    # what is not brought needs its room all the same
+    whole('every_section_result_one_short_by_%s' % entry_name, ALL_SECTIONS, refused(12, 8, 0), A_NAME, entry=entry,
+          result=ALL_NEED - 1, scratch=ALL_NEED)
+    whole('every_section_scratch_one_short_by_%s' % entry_name, ALL_SECTIONS, refused(12, 8, 1), A_NAME, entry=entry,
+          result=ALL_NEED, scratch=ALL_NEED - 1)
+
+# --- 4,096 nodes
+
+N = 4096
+
+
+def as_given(name, nodes, bads, questions, later=(), **more):
+    """A table that nothing folds in."""
+    whole(name, sections(nodes, bads=bads, later=later), left(nodes, bads=bads, later=later, questions=questions), A_NAME,
+          **more)
+
+
+A_BIT, A_WORD, A_MEMORY = (node(INPUT, sort, name=1) for sort in (BIT, WORD, MEMORY))
+for entry_name, entry in ENTRIES.items():
+    as_given('nodes_4096_chain_of_not_by_%s' % entry_name, [A_BIT, node(NOT, BIT, (0, 1), times=4094), node(BAD, BIT, 4094)],
+             [4095], [(SATISFIABLE, 4094, 0, 0)], entry=entry)
+    whole('nodes_4097_chain_of_not_by_%s' % entry_name,
+          sections([A_BIT, node(NOT, BIT, (0, 1), times=4095), node(BAD, BIT, 4095)], bads=[4096]), refused(2, 1, 0), A_NAME,
+          entry=entry)
+as_given('nodes_4096_chain_of_add', [A_WORD, node(ADD, WORD, (0, 1), 0, times=4093), node(EQ, BIT, 4093, 0),
+                                     node(BAD, BIT, 4094)], [4095], [(SATISFIABLE, 4094, 0, 0)])
+as_given('nodes_4096_chain_of_states', [A_BIT, node(STATE, BIT, (0, 1), 1, times=4094), node(BAD, BIT, 4094)],
+         [4095], [(SATISFIABLE, 4094, 0, 0)])
+as_given('nodes_4096_wide', [A_BIT, node(NOT, BIT, 0, times=2047), node(BAD, BIT, (0, 1), times=2048)],
+         [Group(1024, (2048, 1))], [Group(2048, SATISFIABLE, (0, 1), 0, 0)], [Group(1024, (3072, 1))])
+whole('nodes_4096_all_fold',
+      sections([node(CONST, WORD, 0), node(NOT, WORD, (0, 1), times=4093), node(EQ, BIT, 4093, 0), node(BAD, BIT, 4094)],
+               later=[4095]),
+      left([node(CONST, WORD, 0), node(NOT, WORD, 0), node(NOT, WORD, (N + 2, 1), times=4092),
+            node(EQ, BIT, N + 4094, 0), node(BAD, BIT, N)],
+           made=[Group(2046, WORD, MOST, WORD, 0), (WORD, MOST)],
+           replaced=[Group(4093, (1, 1), (N + 2, 1)), (4094, N)]))
+# 2,044 writes of the word 2 at 5, each read at once: a read gives the 2, which the next write stores.
+READS = [A_MEMORY, node(CONST, WORD, 5), A_WORD, node(WRITE, MEMORY, 0, 1, 2), node(READ, WORD, 3, 1)]
+LAST_READS = [node(BAD, BIT, 4091), node(CONST, WORD, 7, times=3)]
+whole('nodes_4096_each_write_read_at_once',
+      sections(READS + [Group(2043, WRITE, MEMORY, (3, 2), 1, (4, 2), 0, READ, WORD, (5, 2), 1, 0, 0),
+                        node(ULT, BIT, 4090, 1)] + LAST_READS, bads=[4092]),
+      left(READS + [Group(2043, WRITE, MEMORY, (3, 2), 1, 2, 0, READ, WORD, (5, 2), 1, 0, 0), node(ULT, BIT, 2, 1)]
+           + LAST_READS, replaced=[Group(2044, (4, 2), 2)], bads=[4092], questions=[(SATISFIABLE, 4091, 0, 0)],
+           looked=2044), A_NAME)
+# The same writes, read at 6, where none of them stores: every read looks at all writes below it.
+MISSES = [A_MEMORY, node(CONST, WORD, 5), A_WORD, node(CONST, WORD, 6), node(WRITE, MEMORY, 0, 1, 2),
+          node(READ, WORD, 4, 3), Group(2043, WRITE, MEMORY, (4, 2), 1, (5, 2), 0, READ, WORD, (6, 2), 3, 0, 0),
+          node(ULT, BIT, 4091, 1), node(BAD, BIT, 4092), node(CONST, WORD, 7, times=2)]
+whole('nodes_4096_reads_that_find_nothing', sections(MISSES, bads=[4093]),
+      left(MISSES, bads=[4093], questions=[(SATISFIABLE, 4092, 0, 0)], looked=2044 * 2045 // 2), A_NAME)
+whole('nodes_4096_asked_twice_each', sections([A_BIT, node(AND, BIT, (0, 1), 0, times=4094), node(BAD, BIT, 4094)],
+                                              bads=[4095], replies=[Group(16384, 0)]),
+      left([A_BIT, node(AND, BIT, (0, 1), 0, times=4094), node(BAD, BIT, 4094)], bads=[4095],
+           questions=[Group(4094, ALWAYS_TRUE, (1, 1), 0, 0, ALWAYS_FALSE, (1, 1), 0, 0), (SATISFIABLE, 4094, 0, 0)],
+           used=8189), A_NAME, MINIMISE)
+ITES = [A_BIT, A_BIT, A_BIT, node(ITE, BIT, 0, 1, 2, times=1024), node(BAD, BIT, (3, 1), times=1024)]
+whole('ites_1024_asked_three_times_each', sections(ITES, bads=[Group(1024, (1027, 1))], later=[Group(1024, (1027, 1))]),
+      left(ITES, bads=[Group(1024, (1027, 1))], later=[Group(1024, (1027, 1))],
+           questions=[Group(1024, ALWAYS_TRUE, (3, 1), 0, 0, ALWAYS_FALSE, (3, 1), 0, 0, EQUAL, (3, 1), 0, 0,
+                            SATISFIABLE, (3, 1), 0, 0), Group(1024, SATISFIABLE, (3, 1), 0, 0)]), A_NAME, MINIMISE)
+
+# --- lists at their limits
+
+KEPT = [node(CONST, WORD, 5), node(STATE, WORD, 0, 1, times=1024), node(CONST, WORD, 6),
+        node(NEXT, WORD, (1, 1), 1025, times=1024)]
+whole('sequentials_1024_kept', sections(KEPT, [Group(1024, (1026, 1))]), left(KEPT, sequentials=[Group(1024, (1026, 1))]))
+DROPPED = [node(CONST, WORD, 5), node(STATE, WORD, 0, 1, times=1024), node(NEXT, WORD, (1, 1), 0, times=1024)]
+whole('sequentials_1024_dropped', sections(DROPPED, [Group(1024, (1025, 1))]),
+      left(DROPPED, replaced=[Group(1024, (1, 1), 0)]))
+whole('inputs_1024_taken',
+      sections([node(STATE, BIT, times=1024), node(BAD, BIT, (0, 1), times=1024)], bads=[Group(1024, (1024, 1))],
+               inputs=[Group(512, 1, 0), 9]),
+      left([node(STATE, BIT, times=1024), node(BAD, BIT, (2050, 1), times=1024)], made=[Group(512, BIT, 1, BIT, 0)],
+           replaced=[Group(1024, (0, 1), (2050, 1))], bads=[Group(512, (1024, 2))], inputs=[9], taken=1024))
+FULL = DROPPED + [
+    node(CONST, BIT, 1),
+    node(STATE, WORD, 0, 0, 0, (1, 1), times=1023),
+    node(INPUT, MEMORY, 0, 0, 0, (2049, 1), times=1022),
+]
+whole('every_count_at_its_limit',
+      sections(FULL + [node(BAD, BIT, 2049, name=4096)], [Group(1024, (1025, 1))], [Group(1024, 4095)], [Group(1024, 4095)],
+               [Group(4096, MOST)], [Group(16384, MOST)]),
+      left(FULL + [node(BAD, BIT, N + 1, name=4096)], replaced=[Group(1024, (1, 1), 0), (2049, N + 1)],
+           bads=[Group(1024, 4095)], later=[Group(1024, 4095)], inputs=[Group(4096, MOST)]),
+      [0, 16, Group(4096, 0)], result=ROOM, scratch=ROOM)
+
+# --- refusals met in the walk, after much was written
+
+CHAIN_THEN_TRUE = [A_BIT, node(NOT, BIT, (0, 1), times=4092), node(BAD, BIT, 4092), node(CONST, BIT, 1), node(BAD, BIT, 4094)]
+for entry_name, entry in (('impl', IMPL), ('with_solver', WITH_SOLVER)):
+    whole('bad_always_true_after_4094_nodes_by_%s' % entry_name, sections(CHAIN_THEN_TRUE, bads=[4093], later=[4095]),
+          refused(13, 4, 0), A_NAME, TERMINATE, entry)
+whole('bad_always_true_after_4094_nodes_without_terminate', sections(CHAIN_THEN_TRUE, bads=[4093], later=[4095]),
+      left(CHAIN_THEN_TRUE[:4] + [node(BAD, BIT, N + 1)], replaced=[(4094, N + 1)], bads=[4093], later=[4095],
+           questions=[(SATISFIABLE, 4092, 0, 0)]), A_NAME)
+whole('bad_always_true_by_with_input', sections(CHAIN_THEN_TRUE, bads=[4095]),
+      left(CHAIN_THEN_TRUE[:4] + [node(BAD, BIT, N + 1)], replaced=[(4094, N + 1)], bads=[4095]), A_NAME, entry=WITH_INPUT)
+FALSE_OPEN_TRUE = [node(CONST, BIT, 0), A_BIT, node(CONST, BIT, 1), node(BAD, BIT, 0), node(BAD, BIT, 1), node(BAD, BIT, 2)]
+false, open_, true = 3, 4, 5
+for section, part in ((3, 'bads'), (4, 'later')):
+    whole('section_%d_third_is_always_true' % section, sections(FALSE_OPEN_TRUE, **{part: [false, open_, true]}),
+          refused(13, section, 2), A_NAME, TERMINATE)
+    whole('section_%d_second_time_satisfiable' % section,
+          sections(FALSE_OPEN_TRUE, replies=[0, 2], **{part: [open_, false, open_]}), refused(14, section, 2), A_NAME,
+          TERMINATE)
+    whole('section_%d_satisfiable_without_terminate' % section,
+          sections(FALSE_OPEN_TRUE, replies=[2, 1, 2], **{part: [open_, open_, open_]}),
+          left(FALSE_OPEN_TRUE, questions=[(SATISFIABLE, 1, 0, 2), (SATISFIABLE, 1, 0, 1), (SATISFIABLE, 1, 0, 2)], used=3,
+               **{part: [open_, open_]}), A_NAME)
+whole('satisfiable_before_always_true', sections(FALSE_OPEN_TRUE, bads=[open_], later=[true], replies=[2]),
+      refused(14, 3, 0), A_NAME, TERMINATE)
+whole('always_true_before_satisfiable', sections(FALSE_OPEN_TRUE, bads=[true], later=[open_], replies=[2]),
+      refused(13, 3, 0), A_NAME, TERMINATE)
+whole('satisfiable_after_4094_nodes', sections(CHAIN_THEN_TRUE, bads=[4093], replies=[2]), refused(14, 3, 0), A_NAME,
+      TERMINATE)
+for reply in (3, 4, 2**32, MOST):
+    whole('reply_%d_to_the_fourth_question' % reply,
+          sections(FALSE_OPEN_TRUE, bads=[open_] * 4, replies=[2, 1, 0, reply, 1]), refused(11, 6, 3), A_NAME)
+whole('reply_never_asked_for', sections(FALSE_OPEN_TRUE, bads=[open_] * 3, replies=[2, 1, 0, MOST]),
+      left(FALSE_OPEN_TRUE, bads=[open_, open_],
+           questions=[(SATISFIABLE, 1, 0, 2), (SATISFIABLE, 1, 0, 1), (SATISFIABLE, 1, 0, 0)], used=3), A_NAME)
+whole('reply_not_brought_by_with_input', sections(FALSE_OPEN_TRUE, bads=[open_], replies=[MOST]),
+      left(FALSE_OPEN_TRUE, bads=[open_], questions=[(SATISFIABLE, 1, 0, 0)]), A_NAME, entry=WITH_INPUT)
+whole('reply_refused_by_with_solver', sections(FALSE_OPEN_TRUE, bads=[open_], replies=[MOST]), refused(11, 6, 0), A_NAME,
+      entry=WITH_SOLVER)
+whole('reply_after_4094_nodes', sections(CHAIN_THEN_TRUE, bads=[4093], replies=[3]), refused(11, 6, 0), A_NAME)
+
+# --- states that take no input
+
+
+def a_read(name):
+    return [node(STATE, MEMORY, name=name), node(CONST, WORD, 5), node(READ, WORD, 0, 1), node(ULT, BIT, 2, 1), node(BAD, BIT, 3)]
+
+
+DUMP = names_of(list(b'memory-dump-0'))
+for entry_name, entry in (('impl', IMPL), ('with_input', WITH_INPUT)):
+    whole('memory_takes_no_input_by_%s' % entry_name, sections(a_read(0), bads=[4], inputs=[7]), refused(8, 1, 0),
+          entry=entry)
+    whole('a_memory_dump_takes_no_input_by_%s' % entry_name, sections(a_read(1), bads=[4], inputs=[7]),
+          left(a_read(1), bads=[4], inputs=[7], questions=[(SATISFIABLE, 3, 0, 0)]), DUMP, entry=entry)
+whole('memory_input_not_brought_by_with_solver', sections(a_read(0), bads=[4], inputs=[7]),
+      left(a_read(0), bads=[4], questions=[(SATISFIABLE, 3, 0, 0)]), entry=WITH_SOLVER)
+whole('memory_no_input_left', sections(a_read(0), bads=[4]), left(a_read(0), bads=[4], questions=[(SATISFIABLE, 3, 0, 0)]))
+whole('memory_named_otherwise', sections(a_read(1), bads=[4], inputs=[7]), refused(8, 1, 0), names_of(list(b'Memory-dump')))
+TWO_STATES = [node(STATE, WORD, name=1), node(STATE, WORD, name=2), node(ULT, BIT, 0, 1), node(BAD, BIT, 2)]
+whole('the_input_goes_past_a_memory_dump', sections(TWO_STATES, bads=[3], inputs=[7, 8]),
+      left([node(STATE, WORD, name=1), node(STATE, WORD, name=2), node(ULT, BIT, 0, 6), node(BAD, BIT, 2)],
+           made=[(WORD, 7)], replaced=[(1, 6)], bads=[3], inputs=[8], questions=[(SATISFIABLE, 2, 0, 0)], taken=1),
+      names_of(list(b'memory-dump'), list(b'memory-dum')))
+
+# --- a settled Ite visits one branch: the State of the other takes no input
+
+for value in (0, 1):
+    branches = (1, 2) if value else (2, 1)
+    chosen = (7, 2) if value else (2, 7)
+    before = [node(CONST, BIT, value), node(CONST, BIT, 0), node(STATE, BIT)]
+    whole('settled_ite_at_%d_loses_no_input' % value,
+          sections(before + [node(ITE, BIT, 0, *branches), node(BAD, BIT, 3), node(STATE, BIT), node(BAD, BIT, 5)],
+                   bads=[4, 6], inputs=[1]),
+          left(before + [node(ITE, BIT, 7 + value, *chosen), node(BAD, BIT, 7), node(STATE, BIT), node(BAD, BIT, 9)],
+               made=[(BIT, 1)], replaced=[(0, 7 + value), (1, 7), (3, 7), (5, 9)], bads=[6], taken=1))
+
+# --- one-query: Bad 1 and Bad 5 are open, Bad 3 never holds, Bad 7 always does
+
+ASKED = [A_BIT, node(BAD, BIT, 0), node(CONST, BIT, 0), node(BAD, BIT, 2), A_BIT, node(BAD, BIT, 4), node(CONST, BIT, 1),
+         node(BAD, BIT, 6)]
+ASKED_LEFT = [A_BIT, node(BAD, BIT, 0), node(CONST, BIT, 0), node(BAD, BIT, 8), A_BIT, node(BAD, BIT, 4),
+              node(CONST, BIT, 1), node(BAD, BIT, 6)]
+LATER = [7, 3, 3, 1]
+for mode in (ONE_QUERY, ONE_QUERY + TERMINATE, ONE_QUERY + MINIMISE):
+    for reply, verdict in ((0, FOUND), (1, NOT_FOUND)):
+        whole('mode_%d_one_bad_left_reply_%d' % (mode, reply), sections(ASKED, bads=[3, 1], later=LATER, replies=[reply]),
+              left(ASKED_LEFT, replaced=[(2, 8)], bads=[1], later=LATER, questions=[(ALWAYS_FALSE, 1, 0, reply)], used=1,
+                   verdict=verdict), A_NAME, mode)
+        whole('mode_%d_three_bads_left_reply_%d' % (mode, reply),
+              sections(ASKED, bads=[1, 5, 3, 1], later=LATER, replies=[reply]),
+              left(ASKED_LEFT, replaced=[(2, 8)], bads=[1, 5, 1], later=LATER, questions=[(SEVERAL_FALSE, 3, 0, reply)],
+                   used=1, verdict=verdict), A_NAME, mode)
+    whole('mode_%d_no_reply' % mode, sections(ASKED, bads=[1], later=LATER),
+          left(ASKED, bads=[1], later=LATER, questions=[(ALWAYS_FALSE, 1, 0, 0)], verdict=FOUND), A_NAME, mode)
+    whole('mode_%d_folding_removed_all' % mode, sections(ASKED, bads=[3, 3], later=LATER, replies=[1]),
+          left(ASKED_LEFT, replaced=[(2, 8)], later=LATER, verdict=REMOVED_ALL), A_NAME, mode)
+    whole('mode_%d_no_bads' % mode, sections(ASKED, later=LATER, replies=[1]),
+          left(ASKED, later=LATER, verdict=REMOVED_ALL), A_NAME, mode)
+    whole('mode_%d_always_true' % mode, sections(ASKED, bads=[1, 3, 7], later=LATER), refused(13, 3, 2), A_NAME, mode)
+    whole('mode_%d_reply_2_about_one' % mode, sections(ASKED, bads=[1], replies=[2]), refused(11, 6, 0), A_NAME, mode)
+    whole('mode_%d_reply_2_about_several' % mode, sections(ASKED, bads=[1, 5], replies=[2]), refused(11, 6, 0), A_NAME,
+          mode)
+    whole('mode_%d_by_with_solver' % mode, sections(ASKED, bads=[1], later=LATER, inputs=[1], replies=[1]),
+          left(ASKED, bads=[1], later=LATER, questions=[(ALWAYS_FALSE, 1, 0, 1)], used=1, verdict=NOT_FOUND), A_NAME, mode,
+          WITH_SOLVER)
+
+# --- minimise
+
+for kind_name, kind, operand in (('ult', ULT, A_WORD), ('eq', EQ, A_WORD), ('and', AND, A_BIT)):
+    nodes = [operand, operand, node(kind, BIT, 0, 1)]
+    whole('minimise_%s_open' % kind_name, sections(nodes + [node(BAD, BIT, 2)], bads=[3], replies=[0, 0, 2]),
+          left(nodes + [node(BAD, BIT, 2)], bads=[3],
+               questions=[(ALWAYS_TRUE, 2, 0, 0), (ALWAYS_FALSE, 2, 0, 0), (SATISFIABLE, 2, 0, 2)], used=3), A_NAME, MINIMISE)
+    whole('minimise_%s_always_true' % kind_name, sections(nodes + [node(BAD, BIT, 2)], bads=[3], replies=[1]),
+          left(nodes + [node(BAD, BIT, 5)], replaced=[(2, 5)], bads=[3], questions=[(ALWAYS_TRUE, 2, 0, 1)], used=1), A_NAME,
+          MINIMISE)
+    whole('minimise_%s_always_true_under_terminate' % kind_name,
+          sections(nodes + [node(BAD, BIT, 2)], bads=[3], replies=[1]), refused(13, 3, 0), A_NAME, MINIMISE + TERMINATE)
+    whole('minimise_%s_always_false' % kind_name, sections(nodes + [node(BAD, BIT, 2)], bads=[3], replies=[0, 1]),
+          left(nodes + [node(BAD, BIT, 4)], replaced=[(2, 4)],
+               questions=[(ALWAYS_TRUE, 2, 0, 0), (ALWAYS_FALSE, 2, 0, 1)], used=2), A_NAME, MINIMISE)
+    whole('minimise_%s_reply_2' % kind_name, sections(nodes + [node(BAD, BIT, 2)], bads=[3], replies=[0, 2]),
+          refused(11, 6, 1), A_NAME, MINIMISE)
+    whole('minimise_%s_by_with_solver' % kind_name,
+          sections(nodes + [node(BAD, BIT, 2)], bads=[3], inputs=[9], replies=[0, 1]),
+          left(nodes + [node(BAD, BIT, 4)], replaced=[(2, 4)],
+               questions=[(ALWAYS_TRUE, 2, 0, 0), (ALWAYS_FALSE, 2, 0, 1)], used=2), A_NAME, MINIMISE, WITH_SOLVER)
+    whole('minimise_%s_not_by_with_input' % kind_name,
+          sections(nodes + [node(BAD, BIT, 2)], bads=[3], inputs=[9], replies=[1]),
+          left(nodes + [node(BAD, BIT, 2)], bads=[3], inputs=[9], questions=[(SATISFIABLE, 2, 0, 0)]), A_NAME,
+          entry=WITH_INPUT)
+
+BIT_ITE = [A_BIT, A_BIT, A_BIT, node(ITE, BIT, 0, 1, 2)]
+whole('minimise_bit_ite_open', sections(BIT_ITE + [node(BAD, BIT, 3)], bads=[4]),
+      left(BIT_ITE + [node(BAD, BIT, 3)], bads=[4],
+           questions=[(ALWAYS_TRUE, 3, 0, 0), (ALWAYS_FALSE, 3, 0, 0), (EQUAL, 3, 0, 0), (SATISFIABLE, 3, 0, 0)]), A_NAME,
+      MINIMISE)
+whole('minimise_bit_ite_is_its_condition', sections(BIT_ITE + [node(BAD, BIT, 3)], bads=[4], replies=[0, 0, 1]),
+      left(BIT_ITE + [node(BAD, BIT, 0)], replaced=[(3, 0)], bads=[4],
+           questions=[(ALWAYS_TRUE, 3, 0, 0), (ALWAYS_FALSE, 3, 0, 0), (EQUAL, 3, 0, 1), (SATISFIABLE, 0, 0, 0)], used=3),
+      A_NAME, MINIMISE)
+WORD_ITE = [A_BIT, A_WORD, A_WORD, node(ITE, WORD, 0, 1, 2)]
+OPEN_ULT = [(ALWAYS_TRUE, 4, 0, 0), (ALWAYS_FALSE, 4, 0, 0), (SATISFIABLE, 4, 0, 0)]
+for what, replies, stands, asked in (
+        ('open', [], 3, [(EQUAL, 3, 1, 0), (EQUAL, 3, 2, 0)]), ('is_its_left', [1], 1, [(EQUAL, 3, 1, 1)]),
+        ('is_its_right', [0, 1], 2, [(EQUAL, 3, 1, 0), (EQUAL, 3, 2, 1)])):
+    whole('minimise_word_ite_%s' % what,
+          sections(WORD_ITE + [node(ULT, BIT, 3, 1), node(BAD, BIT, 4)], bads=[5], replies=replies),
+          left(WORD_ITE + [node(ULT, BIT, stands, 1), node(BAD, BIT, 4)], replaced=[(3, stands)] if stands != 3 else [],
+               bads=[5], questions=asked + OPEN_ULT, used=len(replies)), A_NAME, MINIMISE)
+BYTE_ITE = [A_BIT, node(INPUT, BYTE, name=1), node(INPUT, BYTE, name=1), node(ITE, BYTE, 0, 1, 2), node(OR, BYTE, 3, 1),
+            node(EXT, WORD, 4, BYTE), node(NOT, BIT, 0), node(OR, BIT, 6, 0)]
+whole('minimise_asks_nothing_about_bytes_or_not', sections(BYTE_ITE + [node(ULT, BIT, 5, 5), node(BAD, BIT, 8), node(BAD, BIT, 7)],
+                                                           bads=[9, 10]),
+      left(BYTE_ITE + [node(ULT, BIT, 5, 5), node(BAD, BIT, 8), node(BAD, BIT, 7)], bads=[9, 10],
+           questions=[(ALWAYS_TRUE, 8, 0, 0), (ALWAYS_FALSE, 8, 0, 0), (SATISFIABLE, 8, 0, 0), (SATISFIABLE, 7, 0, 0)]),
+      A_NAME, MINIMISE)
+
+
+# --- the list, and the comparison
+
+def lines():
+    for name, entry, mode, result, scratch, words, names, answer in calls:
+        refusal = answer if isinstance(answer, tuple) else (0, 0, 0)
+        told = [] if isinstance(answer, tuple) else answer
+        yield '%s %d %d %d %d | %s | %s | %d %d %d | %s' % (
+            (name, entry, mode, result, scratch, text(words), text(names)) + refusal + (text(told),))
+
+
+def brought(entry, mode, words):
+    """The mode and the words that optimize_model_impl would have, where an entry point brings less; None where the words
+    are no whole table."""
+    if entry == IMPL:
+        return mode, words
+    parts, at = [], 0
+    for width in (6, 1, 1, 1, 1, 1):
+        if at >= len(words):
+            return None
+        end = at + 1 + width * words[at]
+        parts.append(words[at:end])
+        at = end
+    if entry == WITH_SOLVER:
+        return mode, sum(parts[:4], []) + [0] + parts[5]
+    return 0, sum(parts[:5], []) + [0]
+
+
+def compare(program):
+    asked = []
+    for name, entry, mode, result, scratch, words, names, answer in calls:
+        call = brought(entry, mode, flat(words))
+        refusal = answer if isinstance(answer, tuple) else (0, 0, 0)
+        numbers = call and in_text_form(call[0], result, scratch, call[1], names, refusal)
+        if numbers is not None:
+            told = 'refused %d %d %d' % answer if isinstance(answer, tuple) else 'accepted ' + ' '.join(map(str, flat(answer)))
+            asked.append((name, numbers, told))
+    given = ''.join(' '.join(map(str, numbers)) + '\n' for _, numbers, _ in asked)
+    told = subprocess.run([program, 'answer'], input=given, capture_output=True, text=True, check=True).stdout.splitlines()
+    assert len(told) == len(asked), 'answers: %d, cases: %d' % (len(told), len(asked))
+    differing = 0
+    for (name, _, answer), line in zip(asked, told):
+        if line.strip() != answer:
+            differing += 1
+            print('%s: here %s, there %s' % (name, answer, line))
+    print('%d calls compared, %d differ' % (len(asked), differing))
+
+
+def main():
+    everything = list(lines())
+    names = [line.split()[0] for line in everything]
+    assert len(set(names)) == len(names), sorted(n for n in names if names.count(n) > 1)
+    if sys.argv[1:] == ['list']:
+        print('\n'.join(everything))
+    elif len(sys.argv) == 3 and sys.argv[1] == 'compare':
+        compare(sys.argv[2])
+    else:
+        sys.exit(__doc__)
+
+
+if __name__ == '__main__':
+    main()
