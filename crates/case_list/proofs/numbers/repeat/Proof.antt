@@ -1,11 +1,13 @@
 -- `repeat` ends: the times that are left fall.
 -- Assumes nothing.
 use borrow.Author.Needs.{needs}
-use Rattle.table_limits.proofs.numbers.repeat.Statement.{statement}
-use Rattle.table_limits.proofs.numbers.repeat.Tie as tie
+use mathlib.Core.Path.{_≡_}
+use lib.ListN.{length}
+use Rattle.case_list.proofs.numbers.repeat.Statement.{statement}
+use Rattle.case_list.proofs.numbers.repeat.Tie as tie
 
 abbrev Inv-loop : tie.InvT-loop
-Inv-loop numbers₀ steps start end times size at₀ left₀ numbers at left = Unit
+Inv-loop numbers₀ steps start end times size at₀ left₀ numbers at left = length numbers ≡ length numbers₀
 
 abbrev μ-loop : tie.MeasureT-loop
 μ-loop numbers₀ steps start end times size at₀ left₀ numbers at left = left
@@ -34,6 +36,9 @@ enum-known-next c = search needs
 enum-told : tie.Need-enum-told Inv-loop μ-loop
 enum-told c = search needs
 
+same-length : tie.Need-same-length Inv-loop μ-loop
+same-length c = search needs
+
 returns-3 : tie.Need-returns-3 Inv-loop μ-loop
 returns-3 c = search needs
 
@@ -45,6 +50,9 @@ loop-less c = search needs
 
 loop-again : tie.Need-loop-again Inv-loop μ-loop
 loop-again c = search needs
+
+same-length-2 : tie.Need-same-length-2 Inv-loop μ-loop
+same-length-2 c = search needs
 
 returns-4 : tie.Need-returns-4 Inv-loop μ-loop
 returns-4 c = search needs
@@ -63,8 +71,10 @@ repeat-spec =
     write-again-requires
     enum-known-next
     enum-told
+    same-length
     returns-3
     sub-left-2
     loop-less
     loop-again
+    same-length-2
     returns-4)

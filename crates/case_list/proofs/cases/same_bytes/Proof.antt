@@ -1,16 +1,16 @@
--- `holds` ends: what is left of the buffer falls.
+-- `same_bytes` ends: what is left of the bytes falls.
 -- Assumes nothing.
 use borrow.Author.Needs.{needs}
 use Prim.Native.Nat.{_≤_, _-_}
 use lib.ListN.{length}
-use Rattle.table_limits.proofs.calls.holds.Statement.{statement}
-use Rattle.table_limits.proofs.calls.holds.Tie as tie
+use Rattle.case_list.proofs.cases.same_bytes.Statement.{statement}
+use Rattle.case_list.proofs.cases.same_bytes.Tie as tie
 
 abbrev Inv-loop : tie.InvT-loop
-Inv-loop buffer words i₀ i = i ≤ length buffer
+Inv-loop bytes numbers i₀ i = i ≤ length bytes
 
 abbrev μ-loop : tie.MeasureT-loop
-μ-loop buffer words i₀ i = length buffer - i
+μ-loop bytes numbers i₀ i = length bytes - i
 
 returns : tie.Need-returns Inv-loop μ-loop
 returns c = search needs
@@ -18,14 +18,17 @@ returns c = search needs
 loop-holds : tie.Need-loop-holds Inv-loop μ-loop
 loop-holds c = search needs
 
+shared-slice-read-wide : tie.Need-shared-slice-read-wide Inv-loop μ-loop
+shared-slice-read-wide c = search needs
+
+wide-requires : tie.Need-wide-requires Inv-loop μ-loop
+wide-requires c κs = search needs
+
 mul-if2 : tie.Need-mul-if2 Inv-loop μ-loop
 mul-if2 c = search needs
 
 shared-slice-read-if2 : tie.Need-shared-slice-read-if2 Inv-loop μ-loop
 shared-slice-read-if2 c = search needs
-
-word-or-zero-requires : tie.Need-word-or-zero-requires Inv-loop μ-loop
-word-or-zero-requires c κs = search needs
 
 returns-2 : tie.Need-returns-2 Inv-loop μ-loop
 returns-2 c = search needs
@@ -42,17 +45,18 @@ loop-again c = search needs
 returns-3 : tie.Need-returns-3 Inv-loop μ-loop
 returns-3 c = search needs
 
-pub holds-spec : {M : Type 1} → statement M
-holds-spec =
+pub same-bytes-spec : {M : Type 1} → statement M
+same-bytes-spec =
     tie.close
     (tie.spec
     Inv-loop
     μ-loop
     returns
     loop-holds
+    shared-slice-read-wide
+    wide-requires
     mul-if2
     shared-slice-read-if2
-    word-or-zero-requires
     returns-2
     add-i
     loop-less

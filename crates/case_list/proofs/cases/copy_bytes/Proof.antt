@@ -3,8 +3,8 @@
 use borrow.Author.Needs.{needs}
 use Prim.Native.Nat.{_≤_, _-_}
 use lib.ListN.{length}
-use Rattle.table_limits.proofs.cases.copy_bytes.Statement.{statement}
-use Rattle.table_limits.proofs.cases.copy_bytes.Tie as tie
+use Rattle.case_list.proofs.cases.copy_bytes.Statement.{statement}
+use Rattle.case_list.proofs.cases.copy_bytes.Tie as tie
 
 abbrev Inv-loop : tie.InvT-loop
 Inv-loop numbers bytes₀ i₀ bytes i = i ≤ length numbers

@@ -9,7 +9,7 @@ use crate::cases::copy_bytes;
 use crate::cases::first_bytes;
 use crate::cases::is_refused_by;
 use crate::cases::right_or_wrong;
-use crate::numbers::ROOM;
+use crate::numbers::number_at;
 use crate::numbers::part;
 use optimize::optimize::optimize_model_impl;
 use optimize::optimize::optimize_model_with_input;
@@ -34,15 +34,11 @@ fn call(
     }
 }
 
-fn word_or_zero(words: &[u64], at: usize) -> u64 {
-    if at < words.len() { words[at] } else { 0 }
-}
-
 // Whether an answer is the kept one, with a result of so many words.
 fn is_answer(answer: Optimized, kept: &[u64], size: usize) -> bool {
-    let number = word_or_zero(kept, 0);
-    let section = word_or_zero(kept, 1);
-    let position = word_or_zero(kept, 2);
+    let number = number_at(kept, 0);
+    let section = number_at(kept, 1);
+    let position = number_at(kept, 2);
     match answer {
         Optimized::Done(words) => words == size && number == 0 && section == 0 && position == 0,
         Optimized::Refused(why) => size == 0 && is_refused_by(why, number, section, position),
@@ -56,7 +52,7 @@ fn holds(buffer: &[u64], words: &[u64]) -> bool {
     }
     let mut i = 0;
     while i < buffer.len() {
-        if buffer[i] != word_or_zero(words, i) {
+        if buffer[i] != number_at(words, i) {
             return false;
         }
         i += 1;
@@ -69,7 +65,7 @@ fn first_words(buffer: &[u64; WORDS], room: usize) -> &[u64] {
 }
 
 pub fn called(
-    numbers: &[u64; ROOM],
+    numbers: &[u64],
     head: usize,
     words: usize,
     names: usize,
@@ -83,8 +79,8 @@ pub fn called(
     if kept.len() != 3 {
         return Outcome::NoCase;
     }
-    let result_room = numbers[2] as usize;
-    let scratch_room = numbers[3] as usize;
+    let result_room = number_at(numbers, 2) as usize;
+    let scratch_room = number_at(numbers, 3) as usize;
     if WORDS < result_room {
         return Outcome::NoCase;
     }
@@ -98,8 +94,8 @@ pub fn called(
     let mut result = [u64::MAX; WORDS];
     let mut scratch = [u64::MAX; WORDS];
     let told = call(
-        numbers[0],
-        numbers[1],
+        number_at(numbers, 0),
+        number_at(numbers, 1),
         part(numbers, head, words),
         first_bytes(&bytes, count),
         &mut result[0..result_room],

@@ -38,8 +38,8 @@ pub fn wide(b: u8) -> u64 {
     b as u64
 }
 
-pub fn put(numbers: &mut [u64; ROOM], at: usize, number: u64) -> Written {
-    if ROOM <= at {
+pub fn put(numbers: &mut [u64], at: usize, number: u64) -> Written {
+    if numbers.len() <= at {
         return Written::Full;
     }
     numbers[at] = number;
@@ -60,7 +60,7 @@ pub fn put_step(steps: &mut [u64; GROUP], group: usize, at: usize, step: u64) ->
 }
 
 // Writes a group once more, with its steps: `size` numbers that end at `at`.
-fn write_again(numbers: &mut [u64; ROOM], steps: &[u64; GROUP], at: usize, size: usize) -> Written {
+fn write_again(numbers: &mut [u64], steps: &[u64; GROUP], at: usize, size: usize) -> Written {
     if GROUP < size {
         return Written::Full;
     }
@@ -70,13 +70,13 @@ fn write_again(numbers: &mut [u64; ROOM], steps: &[u64; GROUP], at: usize, size:
     if ROOM < at {
         return Written::Full;
     }
-    if ROOM - at < size {
-        return Written::Full;
-    }
     let mut i = 0;
     while i < size {
-        let last = numbers[at + i - size];
-        numbers[at + i] = std::num::wrapping_add_u64(last, steps[i]);
+        let last = number_at(numbers, at + i - size);
+        let next = std::num::wrapping_add_u64(last, steps[i]);
+        let Written::To(_) = put(numbers, at + i, next) else {
+            return Written::Full;
+        };
         i += 1;
     }
     Written::To(at + size)
@@ -84,7 +84,7 @@ fn write_again(numbers: &mut [u64; ROOM], steps: &[u64; GROUP], at: usize, size:
 
 // Writes the group from `start` to `end` until it stands there `times` times.
 pub fn repeat(
-    numbers: &mut [u64; ROOM],
+    numbers: &mut [u64],
     steps: &[u64; GROUP],
     start: usize,
     end: usize,
@@ -110,8 +110,8 @@ pub fn repeat(
 }
 
 // The number at a place; 0 where there is none.
-pub fn number_at(numbers: &[u64; ROOM], at: usize) -> u64 {
-    if at < ROOM { numbers[at] } else { 0 }
+pub fn number_at(numbers: &[u64], at: usize) -> u64 {
+    if at < numbers.len() { numbers[at] } else { 0 }
 }
 
 // The numbers from a place to another; none where these are no such places.

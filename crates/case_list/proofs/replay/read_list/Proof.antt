@@ -1,11 +1,13 @@
 -- `read_list` ends: the reads that are left fall.
 -- Assumes nothing.
 use borrow.Author.Needs.{needs}
-use Rattle.table_limits.proofs.read_list.Statement.{statement}
-use Rattle.table_limits.proofs.read_list.Tie as tie
+use mathlib.Core.Path.{_≡_}
+use lib.ListN.{length}
+use Rattle.case_list.proofs.replay.read_list.Statement.{statement}
+use Rattle.case_list.proofs.replay.read_list.Tie as tie
 
 abbrev Inv-loop : tie.InvT-loop
-Inv-loop file numbers₀ steps₀ run₀ turns₀ numbers steps run turns = Unit
+Inv-loop file numbers₀ steps₀ run₀ turns₀ numbers steps run turns = length numbers ≡ length numbers₀
 
 abbrev μ-loop : tie.MeasureT-loop
 μ-loop file numbers₀ steps₀ run₀ turns₀ numbers steps run turns = turns
@@ -34,14 +36,23 @@ loop-again c = search needs
 enum-known-last : tie.Need-enum-known-last Inv-loop μ-loop
 enum-known-last c = search needs
 
+same-length : tie.Need-same-length Inv-loop μ-loop
+same-length c = search needs
+
 returns : tie.Need-returns Inv-loop μ-loop
 returns c = search needs
 
 enum-told : tie.Need-enum-told Inv-loop μ-loop
 enum-told c = search needs
 
+same-length-2 : tie.Need-same-length-2 Inv-loop μ-loop
+same-length-2 c = search needs
+
 returns-2 : tie.Need-returns-2 Inv-loop μ-loop
 returns-2 c = search needs
+
+same-length-3 : tie.Need-same-length-3 Inv-loop μ-loop
+same-length-3 c = search needs
 
 returns-3 : tie.Need-returns-3 Inv-loop μ-loop
 returns-3 c = search needs
@@ -60,7 +71,10 @@ read-list-spec =
     loop-less
     loop-again
     enum-known-last
+    same-length
     returns
     enum-told
+    same-length-2
     returns-2
+    same-length-3
     returns-3)

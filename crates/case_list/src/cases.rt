@@ -1,7 +1,6 @@
 // A case of the list: a call that is judged, or a label.
 // Judged: mode, result room, scratch room | words | names bytes | number, section, position, all 0 where the call is accepted.
 // Labelled: node | words | names bytes | the substitute's bytes | the label's bytes.
-use crate::numbers::ROOM;
 use crate::numbers::number_at;
 use crate::numbers::part;
 use crate::numbers::wide;
@@ -79,28 +78,23 @@ pub fn is_refused_by(why: Refusal, number: u64, section: u64, position: u64) -> 
     why.number() == number && why.section() == section && why.position() as u64 == position
 }
 
-// Whether a verdict is the answer; number 0 is accepted.
-fn is_answer(verdict: Verdict, number: u64, section: u64, position: u64) -> bool {
+// Whether a verdict is the kept answer; number 0 is accepted.
+fn is_answer(verdict: Verdict, kept: &[u64]) -> bool {
+    let number = number_at(kept, 0);
+    let section = number_at(kept, 1);
+    let position = number_at(kept, 2);
     match verdict {
         Verdict::Accepted(_, _) => number == 0 && section == 0 && position == 0,
         Verdict::Refused(why) => is_refused_by(why, number, section, position),
     }
 }
 
-pub fn judged(
-    numbers: &[u64; ROOM],
-    head: usize,
-    words: usize,
-    names: usize,
-    end: usize,
-) -> Outcome {
+pub fn judged(numbers: &[u64], head: usize, words: usize, names: usize, end: usize) -> Outcome {
     if head != 3 {
         return Outcome::NoCase;
     }
-    if end < names {
-        return Outcome::NoCase;
-    }
-    if end - names != 3 {
+    let kept = part(numbers, names, end);
+    if kept.len() != 3 {
         return Outcome::NoCase;
     }
     let mut bytes = [0u8; BYTES];
@@ -108,20 +102,17 @@ pub fn judged(
         return Outcome::NoCase;
     };
     let verdict = judge(
-        numbers[0],
+        number_at(numbers, 0),
         part(numbers, head, words),
         first_bytes(&bytes, count),
-        numbers[1] as usize,
-        numbers[2] as usize,
+        number_at(numbers, 1) as usize,
+        number_at(numbers, 2) as usize,
     );
-    let number = number_at(numbers, names);
-    let section = number_at(numbers, names + 1);
-    let position = number_at(numbers, names + 2);
-    right_or_wrong(is_answer(verdict, number, section, position))
+    right_or_wrong(is_answer(verdict, kept))
 }
 
 pub fn labelled(
-    numbers: &[u64; ROOM],
+    numbers: &[u64],
     head: usize,
     words: usize,
     names: usize,
@@ -143,7 +134,7 @@ pub fn labelled(
         part(numbers, head, words),
         first_bytes(&bytes, count),
         first_bytes(&other, size),
-        numbers[0],
+        number_at(numbers, 0),
     );
     right_or_wrong(same_bytes(found, part(numbers, substitute, end)))
 }

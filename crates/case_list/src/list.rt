@@ -1,4 +1,4 @@
-// The lines of the list. A line is a case: its name, then numbers in parts, with `|` between the parts and a line end after the last.
+// The lines of a list. A line is a case: its name, then numbers in parts, with `|` between the parts and a line end after the last.
 // `4(1 2)` stands for 1 2 1 2 1 2 1 2, and `(1 2)` for 1 2; in brackets `7+2` is 7 the first time, and grows by 2 from each time to the next.
 use crate::calls;
 use crate::cases;
@@ -6,7 +6,6 @@ use crate::cases::Outcome;
 use crate::numbers;
 use crate::numbers::GROUP;
 use crate::numbers::Grown;
-use crate::numbers::ROOM;
 use crate::numbers::Written;
 
 // What has been read: whole cases, and the part of a line.
@@ -100,7 +99,7 @@ impl Replay {
     }
 
     // Keeps the number that is whole.
-    fn keep(mut self, numbers: &mut [u64; ROOM], steps: &mut [u64; GROUP]) -> Self {
+    fn keep(mut self, numbers: &mut [u64], steps: &mut [u64; GROUP]) -> Self {
         if self.grouped && !numbers::put_step(steps, self.group, self.filled, self.step()) {
             return self.stopped();
         }
@@ -116,7 +115,7 @@ impl Replay {
         }
     }
 
-    fn blank(self, numbers: &mut [u64; ROOM], steps: &mut [u64; GROUP]) -> Self {
+    fn blank(self, numbers: &mut [u64], steps: &mut [u64; GROUP]) -> Self {
         if self.open {
             return self.keep(numbers, steps);
         }
@@ -139,7 +138,7 @@ impl Replay {
         self
     }
 
-    fn close_bracket(self, numbers: &mut [u64; ROOM], steps: &mut [u64; GROUP]) -> Self {
+    fn close_bracket(self, numbers: &mut [u64], steps: &mut [u64; GROUP]) -> Self {
         let mut whole = self.blank(numbers, steps);
         if !whole.grouped {
             return whole.stopped();
@@ -173,7 +172,7 @@ impl Replay {
     }
 
     // Four parts are a call to be judged; five a label, if the first has one number, or a whole call.
-    fn try_case(self, numbers: &[u64; ROOM]) -> Outcome {
+    fn try_case(self, numbers: &[u64]) -> Outcome {
         let parts = self.parts;
         match parts {
             4 => cases::judged(numbers, self.first, self.second, self.third, self.filled),
@@ -182,7 +181,7 @@ impl Replay {
         }
     }
 
-    fn try_five_parts(self, numbers: &[u64; ROOM]) -> Outcome {
+    fn try_five_parts(self, numbers: &[u64]) -> Outcome {
         let head = self.first;
         let words = self.second;
         let names = self.third;
@@ -201,7 +200,7 @@ impl Replay {
         next
     }
 
-    fn line_end(self, numbers: &mut [u64; ROOM], steps: &mut [u64; GROUP]) -> Self {
+    fn line_end(self, numbers: &mut [u64], steps: &mut [u64; GROUP]) -> Self {
         let whole = self.blank(numbers, steps).bar();
         if whole.malformed {
             return whole;
@@ -225,7 +224,7 @@ impl Replay {
         }
     }
 
-    fn feed(self, b: u8, numbers: &mut [u64; ROOM], steps: &mut [u64; GROUP]) -> Self {
+    fn feed(self, b: u8, numbers: &mut [u64], steps: &mut [u64; GROUP]) -> Self {
         if self.malformed {
             return self;
         }
@@ -248,7 +247,7 @@ impl Replay {
 pub fn feed_all(
     run: Replay,
     bytes: &[u8],
-    numbers: &mut [u64; ROOM],
+    numbers: &mut [u64],
     steps: &mut [u64; GROUP],
 ) -> Replay {
     let mut next = run;

@@ -1,13 +1,14 @@
 -- `feed_all` ends: what is left of the bytes falls.
 -- Assumes nothing.
 use borrow.Author.Needs.{needs}
+use mathlib.Core.Path.{_≡_}
 use Prim.Native.Nat.{_≤_, _-_}
 use lib.ListN.{length}
-use Rattle.table_limits.proofs.list.feed_all.Statement.{statement}
-use Rattle.table_limits.proofs.list.feed_all.Tie as tie
+use Rattle.case_list.proofs.list.feed_all.Statement.{statement}
+use Rattle.case_list.proofs.list.feed_all.Tie as tie
 
 abbrev Inv-loop : tie.InvT-loop
-Inv-loop bytes numbers₀ steps₀ next₀ i₀ numbers steps next i = i ≤ length bytes
+Inv-loop bytes numbers₀ steps₀ next₀ i₀ numbers steps next i = (i ≤ length bytes) × (length numbers ≡ length numbers₀)
 
 abbrev μ-loop : tie.MeasureT-loop
 μ-loop bytes numbers₀ steps₀ next₀ i₀ numbers steps next i = length bytes - i
@@ -30,6 +31,9 @@ loop-less c = search needs
 loop-again : tie.Need-loop-again Inv-loop μ-loop
 loop-again c = search needs
 
+same-length : tie.Need-same-length Inv-loop μ-loop
+same-length c = search needs
+
 returns : tie.Need-returns Inv-loop μ-loop
 returns c = search needs
 
@@ -45,4 +49,5 @@ feed-all-spec =
     add-i
     loop-less
     loop-again
+    same-length
     returns)
