@@ -69,6 +69,8 @@ least() {
     echo $high
 }
 
+chain nots 3 > calls.list
+echo "stack of the program itself: $(least)"
 echo "chain stack-2048 stack-4096 bytes-a-node"
 for kind in nots adds writes states conditions settled branches; do
     chain $kind 2048 > calls.list
