@@ -1,0 +1,203 @@
+#!/bin/sh
+# Wrong edits of the two large crates, each of which the prover must refuse at the places that the edit names. A must-fail edit
+# of rt checks its crate from nothing; here a crate is proved once, and each edit is checked over its incremental folder.
+#     tests/edits.sh [FOLDER]           works in FOLDER, which is kept; a temporary one unless given
+# An edit, crates/CRATE/edits/NAME.edit, has the form of a must-fail edit, and for each need that it leaves without a proof a line
+#     refused: fn CRATE::MODULE::FUNCTION at NEED
+# where the need stands without its number: 'returns' is what the function ensures, at any of its returns.
+set -u
+LC_ALL=C
+export LC_ALL
+cd "$(dirname "$0")/.." || exit 1
+
+# A copy of the crates, with the libraries that were proved before: rt takes them if nothing that they are made of has changed.
+prepare() { # FOLDER
+    rm -rf "$1/crates"
+    mkdir -p "$1/target/inc" && cp -R crates crates.txt "$1/" || return 1
+    for part in rlib stamp; do
+        [ ! -d "target/$part" ] || cp -R "target/$part" "$1/target/" || return 1
+    done
+}
+
+# Proves a crate as it stands, and keeps its incremental folder as it is then.
+seed() { # FOLDER CRATE
+    began=$(date +%s)
+    (cd "$1" && rt dev "$2") >"$work/$2.log" 2>&1
+    status=$?
+    if [ "$status" -ne 0 ] || ! grep -q '^logic=proved' "$work/$2.log"; then
+        echo "edits: $2 is not proved as it stands (exit $status)"
+        tail -n 5 "$work/$2.log"
+        return 1
+    fi
+    rm -rf "$work/seed/$2"
+    mkdir -p "$work/seed" && cp -Rp "$1/target/inc/$2" "$work/seed/$2" && touch "$work/seed/$2.time" || return 1
+    echo "edits: $2 proved as it stands, $(($(date +%s) - began)) s"
+}
+
+# The crate and its incremental folder as they were before an edit.
+restore() { # FOLDER CRATE
+    rm -rf "$1/crates/$2"
+    cp -R "crates/$2" "$1/crates/$2"
+    find "$1/target/inc/$2" -type f -newer "$work/seed/$2.time" -exec rm -f {} +
+    (cd "$work/seed/$2" && find . -type f) | while IFS= read -r file; do
+        [ -f "$1/target/inc/$2/$file" ] || cp -p "$work/seed/$2/$file" "$1/target/inc/$2/$file"
+    done
+}
+
+# Puts NEW for the text OLD, which FILE must have exactly once.
+replace() { # FILE OLD NEW
+    OLD=$2 NEW=$3 awk '
+        { text = text $0 "\n" }
+        END {
+            old = ENVIRON["OLD"]
+            if (old == "") exit 3
+            at = index(text, old)
+            if (!at) exit 3
+            rest = substr(text, at + length(old))
+            if (index(rest, old)) exit 4
+            printf "%s%s%s", substr(text, 1, at - 1), ENVIRON["NEW"], rest
+        }' "$1" >"$1.edited" && mv "$1.edited" "$1"
+}
+
+# Applies an edit to a copy of its crate; what is wrong with the edit is printed.
+apply() { # CRATE-FOLDER EDIT
+    grep -q '^refused: ' "$2" || { echo "it has no 'refused:' line"; return; }
+    f='' old='' pairs=0
+    while IFS= read -r line || [ -n "$line" ]; do
+        case $line in
+        'file: '*) f=${line#file: } ;;
+        'old: '*) old=${line#old: } ;;
+        'new:'*)
+            new=${line#new:}
+            case /$f/ in */../*) echo "a 'file:' line leads out of the crate"; return ;; esac
+            case $f in src/* | specs/* | proofs/*) ;; *) echo "a 'file:' line names no file under src/, specs/ or proofs/"; return ;; esac
+            [ -f "$1/$f" ] || { echo "a 'file:' line names no file of the crate"; return; }
+            replace "$1/$f" "$old" "${new# }"
+            case $? in
+            0) ;;
+            3) echo "an 'old:' text is not in $f"; return ;;
+            *) echo "an 'old:' text is in $f more than once"; return ;;
+            esac
+            old='' pairs=$((pairs + 1))
+            ;;
+        *) ;;
+        esac
+    done <"$2"
+    [ "$pairs" -gt 0 ] || echo "it has no 'old:' and 'new:' pair"
+}
+
+# The needs without a proof in what the prover said. An error that only follows from another one says 'was not admitted'.
+places() { # CRATE LOG
+    awk -v crate="$1" '
+        function snake(s) {
+            while (match(s, /[a-z0-9][A-Z]/)) s = substr(s, 1, RSTART) "_" substr(s, RSTART + 1, 1) substr(s, RSTART + 2)
+            return tolower(s)
+        }
+        function place(file,    n, part, i, name) {
+            n = split(file, part, "/")
+            if (file !~ /^proofs\/.*\/Proof(\/[A-Za-z0-9]*)?\.antt$/) return file
+            name = crate
+            for (i = 2; i < n && part[i] != "Proof" && part[i] !~ /^\+/; i++) name = name "::" part[i]
+            if (part[i] ~ /^\+/) { sub(/\.antt$/, "", part[n]); name = name "::" snake(part[n]) }
+            return "fn " name
+        }
+        function kind(need) {
+            sub(/-[0-9]+$/, "", need)
+            return need
+        }
+        /: error: / && !/ was not admitted / {
+            split($0, half, ": error: ")
+            sub(/.*\/crates\/[^\/]*\//, "", half[1])
+            sub(/:[0-9]+:[0-9]+$/, "", half[1])
+            split(half[2], word, "`")
+            print place(half[1]) " at " kind(word[2])
+        }
+        /^fn [^ ]*: no proof: / && / does not close / {
+            sub(/:$/, "", $2)
+            name = $2
+            n = split(substr($0, index($0, " does not close ")), word, "`")
+            for (i = 2; i <= n; i += 2) print "fn " name " at " kind(word[i])
+        }' "$2" | sort -u
+}
+
+# One line about one edit; status 0 if it is refused where it says.
+try() { # FOLDER CRATE EDIT
+    label=$2/$(basename "$3" .edit)
+    log=$work/told/$label.log
+    bad=$(apply "$1/crates/$2" "$3")
+    began=$(date +%s)
+    [ -n "$bad" ] || (cd "$1" && rt dev "$2") >"$log" 2>&1
+    status=$?
+    took=$(($(date +%s) - began))
+    restore "$1" "$2"
+    [ -z "$bad" ] || { echo "edit $label: BAD EDIT: $bad"; return 1; }
+    if [ "$status" -eq 0 ]; then
+        echo "edit $label: NOT REFUSED: the crate is still proved with this edit, $took s"
+        return 1
+    elif [ "$status" -ne 1 ] || ! grep -q '^logic=not-proved' "$log"; then
+        echo "edit $label: BAD EDIT: it did not reach the prover (exit $status); the first lines of what was said:"
+        head -n 8 "$log"
+        return 1
+    fi
+    found=$(places "$2" "$log")
+    named=$(sed -n 's/^refused: //p' "$3" | sort -u)
+    if [ "$found" != "$named" ]; then
+        echo "edit $label: REFUSED ELSEWHERE: at $(echo "$found" | paste -sd, -), and the edit says $(echo "$named" | paste -sd, -), $took s"
+        return 1
+    fi
+    echo "edit $label: refused at $(echo "$found" | sed 's/^fn //' | paste -sd, -), $took s"
+}
+
+# The edits of a crate whose place is FIRST, FIRST + STEP and so on; what is said of each is kept in a file of its own.
+try_some() { # FOLDER CRATE FIRST STEP
+    place=0
+    for edit in "crates/$2/edits"/*.edit; do
+        if [ "$place" -ge "$3" ] && [ $(((place - $3) % $4)) -eq 0 ]; then
+            told=$work/told/$2/$(basename "$edit" .edit)
+            try "$1" "$2" "$edit" >"$told" && mv "$told" "$told.refused"
+        fi
+        place=$((place + 1))
+    done
+}
+
+if [ $# -gt 0 ]; then
+    mkdir -p "$1" && work=$(cd "$1" && pwd -P) || exit 1
+else
+    work=$(mktemp -d) || exit 1
+    trap 'rm -rf "$work"' EXIT
+    trap 'exit 1' HUP INT TERM
+fi
+rm -rf "$work/told"
+mkdir -p "$work/told/tables" "$work/told/optimize"
+for folder in one two; do
+    prepare "$work/$folder" || { echo "edits: cannot copy the crates to $work/$folder"; exit 1; }
+done
+
+# The edits of tables are tried while optimize is proved, and then those of optimize, two at a time.
+(seed "$work/two" tables && try_some "$work/two" tables 0 1) &
+seed "$work/one" optimize
+seeded=$?
+wait
+if [ "$seeded" -eq 0 ]; then
+    rm -rf "$work/two/target/inc/optimize"
+    cp -Rp "$work/seed/optimize" "$work/two/target/inc/optimize"
+    try_some "$work/two" optimize 1 2 &
+    try_some "$work/one" optimize 0 2
+    wait
+fi
+
+refused=0 failed=0
+for crate in tables optimize; do
+    for edit in "crates/$crate/edits"/*.edit; do
+        told=$work/told/$crate/$(basename "$edit" .edit)
+        if [ -f "$told.refused" ]; then
+            cat "$told.refused"
+            refused=$((refused + 1))
+        else
+            if [ -f "$told" ]; then cat "$told"; else echo "edit $crate/$(basename "$edit" .edit): not tried"; fi
+            failed=$((failed + 1))
+        fi
+    done
+done
+[ "$failed" -eq 0 ] || { echo "edits: $refused refused, $failed FAILED"; exit 1; }
+echo "edits: $refused refused"
