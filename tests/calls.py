@@ -6,12 +6,9 @@
 
 Nothing here folds a table: every answer is written beside its case.
 """
-import subprocess
-import sys
-
 from limits import (ADD, AND, BAD, BIT, BYTE, CONST, DIV, EQ, EXT, INPUT, ITE, MEMORY, MOST, MUL, NEXT, NOT, OR, READ,
-                    REM, ROOM, SLL, STATE, SUB, ULT, WORD, WRITE, Group, flat, in_text_form, names_of, need, node,
-                    sections, size, text)
+                    REM, ROOM, SLL, STATE, SUB, ULT, WORD, WRITE, Group, answers, flat, in_text_form, main, names_of,
+                    need, node, sections, size, text)
 
 IMPL, WITH_SOLVER, WITH_INPUT = range(3)
 ENTRIES = {'impl': IMPL, 'with_solver': WITH_SOLVER, 'with_input': WITH_INPUT}
@@ -24,10 +21,10 @@ calls = []
 
 def whole(name, words, answer, names=(0, 0), mode=0, entry=IMPL, result=None, scratch=None):
     """A call with as much room as it needs, where no other is said. The answer is a refusal or the words of the result."""
-    words, answer = list(words), answer
-    room = min(need(flat(words)), ROOM) if result is None or scratch is None else 0
-    calls.append((name, entry, mode, room if result is None else result, room if scratch is None else scratch, words,
-                  list(names), answer))
+    words = list(words)
+    if result is None:
+        result = scratch = need(flat(words))
+    calls.append((name, entry, mode, result, scratch, words, list(names), answer))
 
 
 def refused(number, section, position):
@@ -507,28 +504,13 @@ def compare(program):
         if numbers is not None:
             told = 'refused %d %d %d' % answer if isinstance(answer, tuple) else 'accepted ' + ' '.join(map(str, flat(answer)))
             asked.append((name, numbers, told))
-    given = ''.join(' '.join(map(str, numbers)) + '\n' for _, numbers, _ in asked)
-    told = subprocess.run([program, 'answer'], input=given, capture_output=True, text=True, check=True).stdout.splitlines()
-    assert len(told) == len(asked), 'answers: %d, cases: %d' % (len(told), len(asked))
     differing = 0
-    for (name, _, answer), line in zip(asked, told):
+    for (name, _, answer), line in zip(asked, answers(program, [numbers for _, numbers, _ in asked])):
         if line.strip() != answer:
             differing += 1
             print('%s: here %s, there %s' % (name, answer, line))
     print('%d calls compared, %d differ' % (len(asked), differing))
 
 
-def main():
-    everything = list(lines())
-    names = [line.split()[0] for line in everything]
-    assert len(set(names)) == len(names), sorted(n for n in names if names.count(n) > 1)
-    if sys.argv[1:] == ['list']:
-        print('\n'.join(everything))
-    elif len(sys.argv) == 3 and sys.argv[1] == 'compare':
-        compare(sys.argv[2])
-    else:
-        sys.exit(__doc__)
-
-
 if __name__ == '__main__':
-    main()
+    main(lines, compare, __doc__)

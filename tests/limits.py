@@ -723,18 +723,23 @@ def need(words):
     return 22 * n + 5 * (b3 + b4) + s + i + 22
 
 
+def answers(program, tables):
+    """What the program says of each table in the text form, a line for each."""
+    given = ''.join(' '.join(map(str, numbers)) + '\n' for numbers in tables)
+    told = subprocess.run([program, 'answer'], input=given, capture_output=True, text=True, check=True).stdout
+    told = told.splitlines()
+    assert len(told) == len(tables), 'answers: %d, cases: %d' % (len(told), len(tables))
+    return told
+
+
 def compare(program):
     asked = []
     for name, *case, answer in judged:
         numbers = in_text_form(*case, answer)
         if numbers is not None:
             asked.append((name, numbers, answer))
-    given = ''.join(' '.join(map(str, numbers)) + '\n' for _, numbers, _ in asked)
-    told = subprocess.run([program, 'answer'], input=given, capture_output=True, text=True, check=True).stdout
-    told = told.splitlines()
-    assert len(told) == len(asked), 'answers: %d, cases: %d' % (len(told), len(asked))
     differing = 0
-    for (name, _, answer), line in zip(asked, told):
+    for (name, _, answer), line in zip(asked, answers(program, [numbers for _, numbers, _ in asked])):
         first = line.split()
         later = first[0] == 'refused' and int(first[1]) in (8, 10, 11, 13, 14)
         found = ACCEPTED if first[0] == 'accepted' or later else tuple(int(n) for n in first[1:])
@@ -744,7 +749,7 @@ def compare(program):
     print('%d calls compared, %d differ' % (len(asked), differing))
 
 
-def main():
+def main(lines, compare, usage):
     everything = list(lines())
     names = [line.split()[0] for line in everything]
     assert len(set(names)) == len(names), sorted(n for n in names if names.count(n) > 1)
@@ -753,8 +758,8 @@ def main():
     elif len(sys.argv) == 3 and sys.argv[1] == 'compare':
         compare(sys.argv[2])
     else:
-        sys.exit(__doc__)
+        sys.exit(usage)
 
 
 if __name__ == '__main__':
-    main()
+    main(lines, compare, __doc__)

@@ -1,4 +1,4 @@
-// A case that is a whole call of an entry point. Both buffers hold other words before it.
+// A case that is a whole call of an entry point. Before it every bit of both buffers is 1.
 // Entry point, mode, result room, scratch room | words | names bytes | number, section, position | the words of the result.
 // Entry point 0 is optimize_model_impl, 1 optimize_model_with_solver, 2 optimize_model_with_input. Where the call is accepted
 // number, section and position are 0; where it is refused the result has no words.
