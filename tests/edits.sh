@@ -120,6 +120,8 @@ places() { # CRATE LOG
         }' "$2" | sort -u
 }
 
+on_one_line() { paste -sd, - | sed 's/,/, /g'; }
+
 # One line about one edit; status 0 if it is refused where it says.
 try() { # FOLDER CRATE EDIT
     label=$2/$(basename "$3" .edit)
@@ -142,10 +144,10 @@ try() { # FOLDER CRATE EDIT
     found=$(places "$2" "$log")
     named=$(sed -n 's/^refused: //p' "$3" | sort -u)
     if [ "$found" != "$named" ]; then
-        echo "edit $label: REFUSED ELSEWHERE: at $(echo "$found" | paste -sd, -), and the edit says $(echo "$named" | paste -sd, -), $took s"
+        echo "edit $label: REFUSED ELSEWHERE: $(echo "$found" | on_one_line); the edit says $(echo "$named" | on_one_line), $took s"
         return 1
     fi
-    echo "edit $label: refused at $(echo "$found" | sed 's/^fn //' | paste -sd, -), $took s"
+    echo "edit $label: refused at $(echo "$found" | sed 's/^fn //; s/ at /: /' | on_one_line), $took s"
 }
 
 # The edits of a crate whose place is FIRST, FIRST + STEP and so on; what is said of each is kept in a file of its own.
