@@ -23,7 +23,7 @@ use Rattle.rules.specs.Sections.{cutSection, rowsOf, cutSix, cut}
 use Rattle.rules.specs.Names.{cutNames, countedNames, namesOf, startsWith, memoryDump, dump}
 use Rattle.rules.specs.Call.{Answer, Left, judgeMode, judgeRoom, judgeAndFold, judgeCut, outcome, left, optimizeModelImpl, optimizeModelWithSolver, optimizeModelWithInput}
 use Rattle.rules.specs.Label.{at, nameOfNode, labelOf}
-use Rattle.rules.specs.Text.{tokensAfter, allDigits, decimalFrom, numberOf, judgeToken, numbersFrom, numbers, allBytes, allNameBytes, namesInNumbers, textOutcome, decimalOf, blanked, lines, acceptedWord, refusedWord, programRoom, program}
+use Rattle.rules.specs.Text.{tokensAfter, allDigits, decimalFrom, numberOf, judgeToken, numbersFrom, numbers, allBytes, allNameBytes, namesInNumbers, afterNumbers, textOutcome, decimalOf, blanked, lines, acceptedWord, refusedWord, programRoom, program}
 
 -- the bytes of a text of ASCII characters, so many from a place on
 unfoldable pub asciiFrom : ℕ → ℕ → String → List ℕ
@@ -132,7 +132,7 @@ pub text-reading : Prints "" "refused 1 0 0\n"
     × Prints "0 18446744073709551615" "refused 2 1 0\n"
     × Prints "0 18446744073709551616" "refused 1 0 1\n"
     × Prints "0 36893488147419103232" "refused 1 0 1\n"
-unfolding Prints ascii asciiFrom tokensAfter allDigits decimalFrom numberOf judgeToken numbersFrom numbers cutSection rowsOf cutSix cutNames countedNames allBytes allNameBytes namesInNumbers judgeMode textOutcome decimalOf blanked
+unfolding Prints ascii asciiFrom tokensAfter allDigits decimalFrom numberOf judgeToken numbersFrom numbers cutSection rowsOf cutSix cutNames countedNames allBytes allNameBytes namesInNumbers judgeMode afterNumbers textOutcome decimalOf blanked
 text-reading = (refl, refl, refl, refl, refl, refl, refl, refl, refl)
 
 -- at place 4,096 everything is refused, and at the place before it a number is taken
@@ -151,7 +151,7 @@ pub text-names : Prints "0 0 0 0 0 0 0" "refused 1 7 0\n"
     × Prints "0 0 0 0 0 0 0 1 1 256" "refused 1 7 0\n"
     × Prints "0 0 0 0 0 0 0 2 1 256 65" "refused 2 7 0\n"
     × Prints "0 0 0 0 0 0 0 0 0" "refused 1 7 0\n"
-unfolding Prints ascii asciiFrom tokensAfter allDigits decimalFrom numberOf judgeToken numbersFrom numbers cutSection rowsOf cutSix cutNames countedNames allBytes allNameBytes namesInNumbers judgeMode textOutcome decimalOf blanked
+unfolding Prints ascii asciiFrom tokensAfter allDigits decimalFrom numberOf judgeToken numbersFrom numbers cutSection rowsOf cutSix cutNames countedNames allBytes allNameBytes namesInNumbers judgeMode afterNumbers textOutcome decimalOf blanked
 text-names = (refl, refl, refl, refl, refl, refl, refl, refl)
 
 -- the program's room: 185 nodes alone leave 4 words, 186 are too many
@@ -194,5 +194,5 @@ pub accepted-texts : Example
     × Prints "0 1 1 11 255 0 0 0 0 0 0 0 0 0" "accepted\n1 1 11 255 0 0 0\n2 1 0 1 1\n0\n0\n0\n0\n0\n0\n5 0 0 0 0 0\n"
     × Prints "0 1 1 11 256 0 0 0 0 0 0 0 0 0" "refused 5 1 0\n"
     × Prints "0 4 19 11 0 0 0 0 1 11 9 0 0 0 12 1 0 1 0 0 22 1 2 0 0 0 0 1 3 0 1 256 0 0" "refused 10 1 0\n"
-unfolding Example Prints ascii asciiFrom tokensAfter allDigits decimalFrom numberOf judgeToken numbersFrom numbers cutSection rowsOf cutSix cutNames countedNames allBytes allNameBytes namesInNumbers judgeMode textOutcome decimalOf blanked lines startsWith judgeRoom judgeCut judgeAndFold run check checkNodes checkSequentials checkBads width resultWords gather sum questionWords fold foldBads judgeBads judgeSequentials visitAll lastQuestion ask askOr visit process settle finish finishStay unary binary visit1 visit2 visit3 iteOn takeInput forward find lookAt
+unfolding Example Prints ascii asciiFrom tokensAfter allDigits decimalFrom numberOf judgeToken numbersFrom numbers cutSection rowsOf cutSix cutNames countedNames allBytes allNameBytes namesInNumbers judgeMode afterNumbers textOutcome decimalOf blanked lines startsWith judgeRoom judgeCut judgeAndFold run check checkNodes checkSequentials checkBads width resultWords gather sum questionWords fold foldBads judgeBads judgeSequentials visitAll lastQuestion ask askOr visit process settle finish finishStay unary binary visit1 visit2 visit3 iteOn takeInput forward find lookAt
 accepted-texts = (refl, refl, refl, refl, refl, refl)

@@ -18,7 +18,7 @@ use Rattle.rules.specs.Limits.{Limits, highestMode}
 use Rattle.rules.specs.Sections.{Sections, cutSection, cutSix, noneLeft, cut}
 use Rattle.rules.specs.Names.{cutNames, countedNames, namesOf}
 use Rattle.rules.specs.Call.{Entry, impl, Call, Accepted, judgeMode, needOf, judgeRoom, modelFrom, brought, judgeAndFold, judgeCut, outcome, answerOf}
-use Rattle.rules.specs.Text.{mostNumbers, programRoom, tokens, numberOf, judgeToken, numbersFrom, withMode, numbers, allNameBytes, namesInNumbers, textOutcome}
+use Rattle.rules.specs.Text.{mostNumbers, programRoom, tokens, numberOf, judgeToken, numbersFrom, withMode, numbers, allNameBytes, namesInNumbers, afterNumbers, textOutcome}
 use Rattle.rules.specs.Numbered.{OneToFourteen, Numbered, RefusalNumbers}
 use Rattle.rules.proofs.NumberedWalk.{then, either, fold-numbered}
 
@@ -164,7 +164,7 @@ inNumbers-numbered limits [] = (lit≤ tt, lit≤ tt)
 inNumbers-numbered limits (count ∷ xs) = then (countedNames limits count xs) _ (counted-numbered limits count xs) λ names. either (allNameBytes names) _ _ tt (lit≤ tt, lit≤ tt)
 
 pub text-numbered : (limits : Limits) (bytes : List ℕ) → Numbered (textOutcome limits bytes)
-unfolding textOutcome numbers
+unfolding textOutcome afterNumbers numbers
 text-numbered limits bytes =
     then (numbers bytes) _ (then (numbersFrom 0 (tokens bytes)) withMode (numbersFrom-numbered 0 (tokens bytes)) withMode-numbered) λ p.
     then (judgeMode (p .0)) _ (mode-numbered (p .0)) λ how.

@@ -1,7 +1,7 @@
 -- The program's text: what is printed reads back, a text within the limits is a call, and no number is read past the last place.
 -- By recursion over the digits, and by the stages of the text form, which are the call's after the cuts.
 --     decimal-number, decimal-first   a printed number is that number, and begins with no 0
---     text-is-call       a text whose sections and names are cut goes on as the call with those words and bytes
+--     after-is-call      numbers whose sections and names are cut go on as the call with those words and bytes
 --     too-many           after 4,096 numbers everything is refused so
 -- Assumes nothing.
 use Prim.Native.Nat.{ℕ, zero, suc, _+_, _-_, _/_, _%_, _^_, _<_, _≤_}
@@ -21,7 +21,7 @@ use Rattle.rules.specs.Limits.{Limits}
 use Rattle.rules.specs.Sections.{Sections, cutSix, cut, encode}
 use Rattle.rules.specs.Names.{countedNames, namesOf, nameBytes}
 use Rattle.rules.specs.Call.{Call, impl, judgeMode, judgeCut, outcome}
-use Rattle.rules.specs.Text.{mostNumbers, programRoom, isDigit, allDigits, decimalFrom, numberOf, judgeToken, numbersFrom, numbers, allNameBytes, judgeBytes, namesInNumbers, textOutcome, decimalOf, decimal}
+use Rattle.rules.specs.Text.{mostNumbers, programRoom, isDigit, allDigits, decimalFrom, numberOf, judgeToken, numbersFrom, numbers, allNameBytes, judgeBytes, namesInNumbers, afterNumbers, decimalOf, decimal}
 use Rattle.rules.proofs.Base.{cases}
 use Rattle.rules.proofs.Sections.{bind-done, never, same-done, through, cut-encode, encode-cutSix}
 use Rattle.rules.proofs.Names.{names-back, countedNames-done}
@@ -109,13 +109,12 @@ module _ (limits : Limits) where
       go found false f = never (refuse 1 7 0) _ names refl f
 
   -- after the cuts the first refusal is the call's, and so is what is accepted
-  pub text-is-call : (bytes : List ℕ) (mode : ℕ) (xs : List ℕ) (s : Sections) (rest : List ℕ) (names : List (List ℕ)) → numbers bytes ≡ done (mode, xs)
-      → cutSix limits xs ≡ done (s, rest) → namesInNumbers limits rest ≡ done names
-      → textOutcome limits bytes ≡ outcome limits impl (callOf mode s names)
-  unfolding textOutcome outcome
-  text-is-call bytes mode xs s rest names e c n =
+  pub after-is-call : (mode : ℕ) (xs : List ℕ) (s : Sections) (rest : List ℕ) (names : List (List ℕ)) → cutSix limits xs ≡ done (s, rest)
+      → namesInNumbers limits rest ≡ done names → afterNumbers limits (mode, xs) ≡ outcome limits impl (callOf mode s names)
+  unfolding afterNumbers outcome
+  after-is-call mode xs s rest names c n =
       let w = encode-cutSix limits xs (s, rest) c in
-      bind-done (numbers bytes) _ (mode, xs) e ∙ go (judgeMode mode) (cut-encode limits s (w .1)) (namesInNumbers-done rest names n)
+      go (judgeMode mode) (cut-encode limits s (w .1)) (namesInNumbers-done rest names n)
     where
       go : (o : Out Mode) → cut limits (encode s) ≡ done s → namesOf limits (nameBytes names) ≡ done names
           → (o >>= λ how. cutSix limits xs >>= λ p. namesInNumbers limits (p .1) >>= λ ns. judgeCut impl how (p .0) ns programRoom programRoom)

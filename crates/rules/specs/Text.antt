@@ -1,6 +1,6 @@
 -- The program's text form: from all bytes of standard input to all bytes of standard output (document 01, Noon itself).
 --     tokens, numberOf, numbers   the text as decimal numbers, with the refusals of reading
---     textOutcome        mode, sections 1 to 6 and names in the numbers, then as a call
+--     afterNumbers, textOutcome   mode, sections 1 to 6 and names in the numbers, then as a call
 --     printed, program   what is printed; from bytes to bytes
 -- Assumes nothing.
 use Prim.Native.Nat.{ℕ, zero, suc, _+_, _-_, _*_, _/_, _%_, _^_}
@@ -108,13 +108,16 @@ namesInNumbers limits [] = refuse 1 7 0
 namesInNumbers limits (count ∷ xs) = countedNames limits count xs >>= judgeBytes
 
 -- "mode, sections 1 to 6, then names"; then as the call, with room for 4,096 words in result and scratch
-unfoldable pub textOutcome : Limits → List ℕ → Out Accepted
-textOutcome limits bytes = do
-  (mode, xs) ← numbers bytes
+unfoldable pub afterNumbers : Limits → ℕ × List ℕ → Out Accepted
+afterNumbers limits (mode, xs) = do
   how ← judgeMode mode
   (s, rest) ← cutSix limits xs
   names ← namesInNumbers limits rest
   judgeCut impl how s names programRoom programRoom
+
+-- the whole text
+unfoldable pub textOutcome : Limits → List ℕ → Out Accepted
+textOutcome limits bytes = numbers bytes >>= afterNumbers limits
 
 -- ---- what is printed
 -- a number's decimal digits, without leading zeros; the fuel is at least the number

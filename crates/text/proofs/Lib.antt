@@ -3,4 +3,3 @@ pub mod Laid
 pub mod Printing
 pub mod Answer
 pub mod Splitting
-pub mod Program
