@@ -10,12 +10,12 @@ LC_ALL=C
 export LC_ALL
 cd "$(dirname "$0")/.." || exit 1
 
-# A copy of the crates, with the libraries that were proved before: rt takes them if nothing that they are made of has changed.
-prepare() { # FOLDER
+# A copy of the crates, with the libraries that were proved in another folder: rt takes them if nothing that they are made of has changed.
+prepare() { # FOLDER [OTHER]
     rm -rf "$1/crates"
     mkdir -p "$1/target/inc" && cp -R crates crates.txt "$1/" || return 1
     for part in rlib stamp; do
-        [ ! -d "target/$part" ] || cp -R "target/$part" "$1/target/" || return 1
+        [ $# -lt 2 ] || [ ! -d "$2/target/$part" ] || cp -R "$2/target/$part" "$1/target/" || return 1
     done
 }
 
@@ -171,9 +171,10 @@ else
 fi
 rm -rf "$work/told"
 mkdir -p "$work/told/tables" "$work/told/optimize"
-for folder in one two; do
-    prepare "$work/$folder" || { echo "edits: cannot copy the crates to $work/$folder"; exit 1; }
-done
+# The libraries below optimize are proved once. Where they stand in target/ already they are taken from there, unless FROM_NOTHING is set.
+if [ -n "${FROM_NOTHING:-}" ]; then prepare "$work/one"; else prepare "$work/one" .; fi &&
+    (cd "$work/one" && rt check tables) >"$work/tables.log" 2>&1 && prepare "$work/two" "$work/one" ||
+    { echo "edits: the libraries below are not proved, or cannot be copied to $work"; tail -n 5 "$work/tables.log"; exit 1; }
 
 # The edits of tables are tried while optimize is proved, and then those of optimize, two at a time.
 (seed "$work/two" tables && try_some "$work/two" tables 0 1) &

@@ -1,0 +1,200 @@
+// Runs a program on random bytes, random numbers and mutated good cases, and demands one of its two answers each time: no signal, no
+// hang, nothing else printed.
+//     rustc -O tests/harden.rs -o target/harden
+//     target/harden PROGRAM COUNT SEED [LIST]      LIST has the good cases, crates/replay/data/cases.list unless given
+use std::io::{Read, Write};
+use std::process::{Command, ExitCode, Stdio};
+use std::sync::atomic::{AtomicU64, Ordering};
+use std::sync::Arc;
+use std::time::{Duration, Instant};
+
+// How long it may take until some run ends.
+const PATIENCE: Duration = Duration::from_secs(20);
+
+// Numbers by xorshift; the same seed gives the same cases.
+struct Random(u64);
+
+impl Random {
+    fn next(&mut self) -> u64 {
+        self.0 ^= self.0 << 13;
+        self.0 ^= self.0 >> 7;
+        self.0 ^= self.0 << 17;
+        self.0
+    }
+
+    fn below(&mut self, n: usize) -> usize {
+        (self.next() % n as u64) as usize
+    }
+}
+
+// The texts of a list of cases: a line with the sizes of text and answer, the text, the answer, a line end.
+fn good_texts(list: &[u8]) -> Vec<Vec<u8>> {
+    let mut texts = Vec::new();
+    let mut at = 0;
+    while at < list.len() {
+        let end = at + list[at..].iter().position(|b| *b == b'\n').expect("a line with two sizes");
+        let line = String::from_utf8(list[at..end].to_vec()).expect("two sizes");
+        let sizes: Vec<usize> = line.split(' ').map(|size| size.parse().expect("a size")).collect();
+        texts.push(list[end + 1..end + 1 + sizes[0]].to_vec());
+        at = end + 1 + sizes[0] + sizes[1] + 1;
+    }
+    texts
+}
+
+fn random_bytes(random: &mut Random) -> Vec<u8> {
+    let size = random.below(400);
+    (0..size).map(|_| random.next() as u8).collect()
+}
+
+// A number at which limits lie, or any.
+fn random_number(random: &mut Random) -> u64 {
+    let limits = [0, 1, 2, 3, 6, 7, 8, 11, 17, 18, 22, 23, 64, 65, 255, 256, 1024, 1025, 4096, 4097, 16384, 16385, u64::MAX];
+    match random.below(4) {
+        0 => limits[random.below(limits.len())],
+        1 => random.next(),
+        _ => random.next() % 24,
+    }
+}
+
+fn random_numbers(random: &mut Random) -> Vec<u8> {
+    let size = if random.below(50) == 0 { 4000 + random.below(200) } else { random.below(120) };
+    let numbers: Vec<String> = (0..size).map(|_| random_number(random).to_string()).collect();
+    numbers.join(" ").into_bytes()
+}
+
+// A good text with one number changed: by one, or to any.
+fn renumbered(random: &mut Random, texts: &[Vec<u8>]) -> Vec<u8> {
+    let text = String::from_utf8_lossy(&texts[random.below(texts.len())]).into_owned();
+    let mut words: Vec<String> = text.split_ascii_whitespace().map(str::to_string).collect();
+    if !words.is_empty() {
+        let at = random.below(words.len());
+        let number: u64 = words[at].parse().unwrap_or(0);
+        let near = [number.wrapping_add(1), number.wrapping_sub(1), random_number(random)];
+        words[at] = near[random.below(3)].to_string();
+    }
+    words.join(" ").into_bytes()
+}
+
+// A good text with up to three changes: a byte changed, cut out or put in, a number put in, the end cut off.
+fn mutated(random: &mut Random, texts: &[Vec<u8>]) -> Vec<u8> {
+    let mut text = texts[random.below(texts.len())].clone();
+    for _ in 0..random.below(4) {
+        if text.is_empty() {
+            break;
+        }
+        let at = random.below(text.len());
+        match random.below(5) {
+            0 => text[at] = random.next() as u8,
+            1 => drop(text.remove(at)),
+            2 => text.insert(at, b" 0123456789\n-"[random.below(13)]),
+            3 => {
+                let number = format!(" {} ", random_number(random));
+                text.splice(at..at, number.into_bytes());
+            }
+            _ => text.truncate(at),
+        }
+    }
+    text
+}
+
+// Runs the program; what it printed, or what went wrong.
+fn run(program: &str, text: &[u8]) -> Result<Vec<u8>, String> {
+    let mut child = Command::new(program)
+        .stdin(Stdio::piped())
+        .stdout(Stdio::piped())
+        .stderr(Stdio::piped())
+        .spawn()
+        .map_err(|error| format!("cannot run: {error}"))?;
+    let mut input = child.stdin.take().expect("standard input");
+    // A pipe holds 64 KiB, and the program prints nothing before it has read all.
+    input.write_all(text).map_err(|error| format!("does not read: {error}"))?;
+    drop(input);
+    let mut printed = Vec::new();
+    child.stdout.take().expect("standard output").read_to_end(&mut printed).map_err(|error| error.to_string())?;
+    let status = child.wait().map_err(|error| error.to_string())?;
+    if !status.success() {
+        return Err(format!("ends with {status}"));
+    }
+    Ok(printed)
+}
+
+// Whether a line is numbers with single blanks between.
+fn numbers(line: &str) -> Option<Vec<u64>> {
+    line.split(' ').map(|number| number.parse().ok().filter(|n: &u64| n.to_string() == number)).collect()
+}
+
+// One of the two answers, in its exact form.
+fn is_answer(printed: &[u8]) -> bool {
+    let Ok(text) = std::str::from_utf8(printed) else { return false };
+    let Some(text) = text.strip_suffix('\n') else { return false };
+    if let Some(rest) = text.strip_prefix("refused ") {
+        return numbers(rest).is_some_and(|n| n.len() == 3 && (1..=14).contains(&n[0]) && n[1] <= 8);
+    }
+    let lines: Vec<&str> = text.split('\n').collect();
+    let widths = [6, 2, 2, 1, 1, 1, 1, 4, 1];
+    lines.len() == 10
+        && lines[0] == "accepted"
+        && lines[1..].iter().zip(widths).all(|(line, width)| numbers(line).is_some_and(|n| n.len() as u64 == 1 + width * n[0]))
+}
+
+// Waits for all runs; false where none ends for so long.
+fn all_end(tallies: &[AtomicU64; 3], count: u64) -> bool {
+    let (mut done, mut since) = (0, Instant::now());
+    while done < count {
+        std::thread::sleep(Duration::from_millis(50));
+        let now = tallies.iter().map(|tally| tally.load(Ordering::Relaxed)).sum();
+        if now > done {
+            (done, since) = (now, Instant::now());
+        } else if since.elapsed() > PATIENCE {
+            return false;
+        }
+    }
+    true
+}
+
+fn main() -> ExitCode {
+    let words: Vec<String> = std::env::args().collect();
+    if words.len() < 4 {
+        eprintln!("usage: harden PROGRAM COUNT SEED [LIST]");
+        return ExitCode::from(2);
+    }
+    let count: u64 = words[2].parse().expect("a count");
+    let seed: u64 = words[3].parse().expect("a seed");
+    let list = words.get(4).map_or("crates/replay/data/cases.list", |name| name);
+    let texts = Arc::new(good_texts(&std::fs::read(list).expect("the list")));
+    let tallies: Arc<[AtomicU64; 3]> = Arc::default();
+    let workers: Vec<_> = (0..2)
+        .map(|worker| {
+            let (program, texts, tallies) = (words[1].clone(), texts.clone(), tallies.clone());
+            std::thread::spawn(move || {
+                let mut random = Random(0x9E37_79B9_7F4A_7C15 ^ (2 * seed + worker + 1));
+                for case in (worker..count).step_by(2) {
+                    let text = match case / 2 % 4 {
+                        0 => random_bytes(&mut random),
+                        1 => random_numbers(&mut random),
+                        2 => renumbered(&mut random, &texts),
+                        _ => mutated(&mut random, &texts),
+                    };
+                    let kind = match run(&program, &text) {
+                        Ok(printed) if is_answer(&printed) => usize::from(printed.starts_with(b"refused")),
+                        other => {
+                            println!("wrong: {:?} for {}", other, text.escape_ascii());
+                            2
+                        }
+                    };
+                    tallies[kind].fetch_add(1, Ordering::Relaxed);
+                }
+            })
+        })
+        .collect();
+    if !all_end(&tallies, count) {
+        println!("a run did not end within {PATIENCE:?}");
+        return ExitCode::FAILURE;
+    }
+    for worker in workers {
+        worker.join().expect("a worker");
+    }
+    let [accepted, refused, wrong] = [0, 1, 2].map(|k| tallies[k].load(Ordering::Relaxed));
+    println!("{count} inputs: {accepted} accepted, {refused} refused, {wrong} wrong");
+    ExitCode::from(u8::from(wrong > 0))
+}
