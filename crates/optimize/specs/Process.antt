@@ -1,4 +1,5 @@
 -- The rules' steps in the code's order, and what its answers are in the rules' terms.
+--     choiceIs            the branch that a condition chooses
 --     askedOf, solvedOf   the outcome of a question, of a chain of questions
 --     Form, formOf        what a node's visit does, by its kind             byForm   the rules' process by form
 --     oneOf, twoOf, ..    the visits of a node's operands, then what comes after them
@@ -18,8 +19,15 @@ use Rattle.optimize.specs.declared.walk.Walk.{Walk}
 use Rattle.optimize.specs.declared.smt_solver.Asked.{Asked}
 use Rattle.optimize.specs.declared.smt_solver.Solved.{Solved}
 use Rattle.optimize.specs.declared.visit.Form.{Form}
+use Rattle.optimize.specs.declared.visit.Choice.{Choice}
 use Rattle.optimize.specs.View.{countOf, wordOf, nodeOf, tableOf, view, foldIs}
 use Rattle.optimize.specs.Folding.{foldTwo, foldOne, asksBit}
+
+-- the branch that a condition chooses
+abbrev pub choiceIs : Choice → Branch
+choiceIs Choice.Left = left
+choiceIs Choice.Right = right
+choiceIs Choice.Undecided = undecided
 
 -- ---- questions
 unfoldable pub askedOf : List Held → List ℕ → List ℕ → List ℕ → Asked → List ℕ → List ℕ → Out (St × ℕ)

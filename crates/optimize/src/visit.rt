@@ -23,10 +23,11 @@ ghost use Prim.Native.Nat.{ℕ, _+_, _*_, _<_, _≤_};
 ghost use mathlib.Core.Path.{_≡_};
 ghost use lib.ListN.{length};
 ghost use Rattle.rules.specs.Table.{kindOf};
+ghost use Rattle.rules.specs.Visit.{branch};
 ghost use Rattle.rules.specs.Walk.{fresh};
 ghost use Rattle.tables.specs.NodeAnswers.{kindIs};
-ghost use Rattle.optimize.specs.View.{countOf, wordOf, markOf, waysIn};
-ghost use Rattle.optimize.specs.Process.{formOf, hasReplacement, visitOf, processOf, oneOf, twoOf, threeOf, leftOf, rightOf, bothOf, iteOf, valueOf, stepOf};
+ghost use Rattle.optimize.specs.View.{constantIs, countOf, wordOf, markOf, waysIn};
+ghost use Rattle.optimize.specs.Process.{choiceIs, formOf, hasReplacement, visitOf, processOf, oneOf, twoOf, threeOf, leftOf, rightOf, bothOf, iteOf, valueOf, stepOf};
 ghost use Rattle.optimize.specs.Laid.{Laid, Visits};
 ghost use Rattle.optimize.specs.declared.visit.Form.{Form};
 
@@ -375,6 +376,28 @@ fn process_three(
     settle(given, result, scratch, third, node, Folded::Stays)
 }
 
+// Which branch of an Ite its condition chooses.
+pub(crate) enum Choice {
+    Left,
+    Right,
+    Undecided,
+}
+
+fn choice_of(condition: Constant) -> Choice
+    ensures { λ r. ⌜ choiceIs r ≡ branch (constantIs condition) ⌝ }
+{
+    let Constant::Imm(value) = condition else {
+        return Choice::Undecided;
+    };
+    if value == 1 {
+        return Choice::Left;
+    }
+    if value == 0 {
+        return Choice::Right;
+    }
+    Choice::Undecided
+}
+
 // An Ite: its condition first, then only the chosen branch where that is constant.
 fn process_ite(
     given: &[u64],
@@ -409,8 +432,9 @@ fn process_ite(
     let Visited::Done(after, x) = condition else {
         return condition;
     };
-    let Constant::Imm(value) = get_constant(given, result, after.made, x) else {
-        return process_both(
+    let constant = get_constant(given, result, after.made, x);
+    match choice_of(constant) {
+        Choice::Left => process_left(
             given,
             inputs,
             replies,
@@ -421,10 +445,8 @@ fn process_ite(
             after,
             node,
             x,
-        );
-    };
-    if value == 1 {
-        return process_left(
+        ),
+        Choice::Right => process_right(
             given,
             inputs,
             replies,
@@ -435,34 +457,20 @@ fn process_ite(
             after,
             node,
             x,
-        );
+        ),
+        Choice::Undecided => process_both(
+            given,
+            inputs,
+            replies,
+            dumps,
+            result,
+            scratch,
+            minimise,
+            after,
+            node,
+            x,
+        ),
     }
-    if value == 0 {
-        return process_right(
-            given,
-            inputs,
-            replies,
-            dumps,
-            result,
-            scratch,
-            minimise,
-            after,
-            node,
-            x,
-        );
-    }
-    process_both(
-        given,
-        inputs,
-        replies,
-        dumps,
-        result,
-        scratch,
-        minimise,
-        after,
-        node,
-        x,
-    )
 }
 
 // An Ite whose condition `x` is true: its left branch replaces it.

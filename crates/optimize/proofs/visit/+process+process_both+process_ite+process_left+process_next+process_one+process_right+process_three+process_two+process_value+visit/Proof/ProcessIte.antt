@@ -1,16 +1,18 @@
 -- `process_ite`: the condition decides which branches are visited.
 -- Assumes nothing.
 use Prim.Native.Nat.{ℕ}
+use mathlib.Core.Path.{sym, ap, _∙_}
 use native.Mathlib.Omega.{arith}
 use borrow.Author.Needs.{needs}
 use Rattle.rules.specs.Visit.{left, right, undecided}
 use Rattle.optimize.specs.View.{view, waysIn}
-use Rattle.optimize.specs.Process.{chosenOf}
-use Rattle.optimize.proofs.Walks.{came-done, ite-stop, ite-at, branch-none, branch-one, branch-zero, branch-other}
+use Rattle.optimize.specs.Process.{choiceIs, chosenOf}
+use Rattle.optimize.proofs.Walks.{came-done, ite-stop, ite-at}
 use Rattle.optimize.proofs.Keeps.{ready, ready-on}
 use Rattle.optimize.proofs.buffers.operand.Reads as operand-reads
 use Rattle.optimize.proofs.visit.visit.Reads as visit
 use Rattle.optimize.proofs.buffers.get_constant.Reads as get-constant-reads
+use Rattle.optimize.proofs.visit.choice_of.Reads as choice-of-reads
 use Rattle.optimize.proofs.visit.process_both.Reads as process-both
 use Rattle.optimize.proofs.visit.process_left.Reads as process-left
 use Rattle.optimize.proofs.visit.process_right.Reads as process-right
@@ -20,7 +22,7 @@ use Rattle.optimize.proofs.visit.+process+process_both+process_ite+proc
 
 module _ (t : ℕ) where
   abbrev claims : lts.Claims
-  claims = (operand-reads.Asked, operand-reads.Learnt, visit-below t, visit.Post, get-constant-reads.Asked, get-constant-reads.Learnt, process-both-below t, process-both.Post, process-left-below t, process-left.Post, process-right-below t, process-right.Post)
+  claims = (operand-reads.Asked, operand-reads.Learnt, visit-below t, visit.Post, get-constant-reads.Asked, get-constant-reads.Learnt, choice-of-reads.Asked, choice-of-reads.Learnt, process-left-below t, process-left.Post, process-right-below t, process-right.Post, process-both-below t, process-both.Post)
 
   operand-requires : lts.Need-operand-requires claims (process-ite-at t) process-ite.Post
   operand-requires c κs =
@@ -59,18 +61,40 @@ module _ (t : ℕ) where
       let start = at-operand .before .before .before .before .before .before .before .before .before in
       let k = (ready-on _ _ _ _ _ _ _ _ _ _ _ _ _ _ _ (ready _ _ _ _ _ _ _ _ _ (start .pre .1 .0) (start .pre .1 .1 .0) (start .pre .1 .1 .1 .0)) (omega (arith, at-operand .operand .ensures, (start .pre .1 .1 .1 .1 .0))) (at-visit .visit .ensures) (at-condition .condition .given .1) (at-visit .visit .kept .1 .1 .1 .1 .0) (at-visit .visit .kept .1 .1 .1 .1 .1 .0)) .laid in ((omega (arith, k .whole), k .small), (k .room, omega (arith, k .few)))
 
-  enum-known-value : lts.Need-enum-known-value claims (process-ite-at t) process-ite.Post
-  enum-known-value c = search needs
+  choice-of-requires : lts.Need-choice-of-requires claims (process-ite-at t) process-ite.Post
+  choice-of-requires c κs = search needs
 
   enum-told-2 : lts.Need-enum-told-2 claims (process-ite-at t) process-ite.Post
   enum-told-2 c = search needs
 
+  process-left-requires : lts.Need-process-left-requires claims (process-ite-at t) process-ite.Post
+  process-left-requires c κs =
+      let at-condition = c .before .before .before .before .before .before .before .before in
+      let at-visit = c .before .before .before .before .before .before .before .before .before .before .before .before .before .before in
+      let at-operand = c .before .before .before .before .before .before .before .before .before .before .before .before .before .before .before in
+      let start = c .before .before .before .before .before .before .before .before .before .before .before .before .before .before .before .before .before .before .before .before .before .before .before .before in
+      let r = (ready-on _ _ _ _ _ _ _ _ _ _ _ _ _ _ _ (ready _ _ _ _ _ _ _ _ _ (start .pre .1 .0) (start .pre .1 .1 .0) (start .pre .1 .1 .1 .0)) (omega (arith, at-operand .operand .ensures, (start .pre .1 .1 .1 .1 .0))) (at-visit .visit .ensures) (at-condition .condition .given .1) (at-visit .visit .kept .1 .1 .1 .1 .0) (at-visit .visit .kept .1 .1 .1 .1 .1 .0)) in (omega (arith, start .pre .0), (r .laid, ((start .pre .1 .1 .0), (r .fresh, (start .pre .1 .1 .1 .1 .1 .0)))))
+
+  enum-told-3 : lts.Need-enum-told-3 claims (process-ite-at t) process-ite.Post
+  enum-told-3 c = search needs
+
+  process-right-requires : lts.Need-process-right-requires claims (process-ite-at t) process-ite.Post
+  process-right-requires c κs =
+      let at-condition = c .before .before .before .before .before .before .before .before in
+      let at-visit = c .before .before .before .before .before .before .before .before .before .before .before .before .before .before in
+      let at-operand = c .before .before .before .before .before .before .before .before .before .before .before .before .before .before .before in
+      let start = c .before .before .before .before .before .before .before .before .before .before .before .before .before .before .before .before .before .before .before .before .before .before .before .before in
+      let r = (ready-on _ _ _ _ _ _ _ _ _ _ _ _ _ _ _ (ready _ _ _ _ _ _ _ _ _ (start .pre .1 .0) (start .pre .1 .1 .0) (start .pre .1 .1 .1 .0)) (omega (arith, at-operand .operand .ensures, (start .pre .1 .1 .1 .1 .0))) (at-visit .visit .ensures) (at-condition .condition .given .1) (at-visit .visit .kept .1 .1 .1 .1 .0) (at-visit .visit .kept .1 .1 .1 .1 .1 .0)) in (omega (arith, start .pre .0), (r .laid, ((start .pre .1 .1 .0), (r .fresh, (start .pre .1 .1 .1 .1 .1 .1)))))
+
+  enum-told-4 : lts.Need-enum-told-4 claims (process-ite-at t) process-ite.Post
+  enum-told-4 c = search needs
+
   process-both-requires : lts.Need-process-both-requires claims (process-ite-at t) process-ite.Post
   process-both-requires c κs =
-      let at-condition = c .before .before .before .before .before .before .before in
-      let at-visit = at-condition .before .before .before .before .before .before in
-      let at-operand = at-visit .before in
-      let start = at-operand .before .before .before .before .before .before .before .before .before in
+      let at-condition = c .before .before .before .before .before .before .before .before in
+      let at-visit = c .before .before .before .before .before .before .before .before .before .before .before .before .before .before in
+      let at-operand = c .before .before .before .before .before .before .before .before .before .before .before .before .before .before .before in
+      let start = c .before .before .before .before .before .before .before .before .before .before .before .before .before .before .before .before .before .before .before .before .before .before .before .before in
       let r = (ready-on _ _ _ _ _ _ _ _ _ _ _ _ _ _ _ (ready _ _ _ _ _ _ _ _ _ (start .pre .1 .0) (start .pre .1 .1 .0) (start .pre .1 .1 .1 .0)) (omega (arith, at-operand .operand .ensures, (start .pre .1 .1 .1 .1 .0))) (at-visit .visit .ensures) (at-condition .condition .given .1) (at-visit .visit .kept .1 .1 .1 .1 .0) (at-visit .visit .kept .1 .1 .1 .1 .1 .0)) in (omega (arith, start .pre .0), (r .laid, ((start .pre .1 .1 .0), (r .fresh, ((start .pre .1 .1 .1 .1 .1 .0), (start .pre .1 .1 .1 .1 .1 .1))))))
 
   same-length-3 : lts.Need-same-length-3 claims (process-ite-at t) process-ite.Post
@@ -82,22 +106,15 @@ module _ (t : ℕ) where
   returns-2 : lts.Need-returns-2 claims (process-ite-at t) process-ite.Post
   unfolding chosenOf
   returns-2 c =
-      let at-process-both = c .before .before .before .before in
-      let at-enum-told2 = at-process-both .before .before .before in
-      let at-get-constant = at-enum-told2 .before .before in
-      let at-condition = at-get-constant .before .before .before in
-      let at-visit = at-condition .before .before .before .before .before .before in
-      let at-operand = at-visit .before in
-      let start = at-operand .before .before .before .before .before .before .before .before .before in
-      λ h f l. let m = at-visit .visit .ensures h f (omega (arith, at-operand .operand .ensures, (start .pre .1 .1 .1 .1 .0), l)) in ite-at (start .args .given .now) (start .args .inputs .now) (start .args .replies .now) (waysIn (start .args .dumps .now) (start .args .minimise) (start .args .replies .now)) f (start .args .node) (view h (start .args .given .now) (start .args .inputs .now) (start .args .replies .now) (start .args .result .now) (start .args .scratch .now) (start .args .walk)) _ _ _ _ _ _ _ _ _ (at-get-constant .get-constant .result) undecided (came-done _ _ _ _ _ _ _ m _ _ (at-condition .condition .given .1)) (at-operand .operand .ensures) (at-get-constant .get-constant .ensures) (branch-none (at-get-constant .get-constant .result) (at-enum-told2 .enum-told2 .given .1)) (at-process-both .process-both .ensures (m .0) f l)
-
-  process-left-requires : lts.Need-process-left-requires claims (process-ite-at t) process-ite.Post
-  process-left-requires c κs =
-      let at-condition = c .before .before .before .before .before .before .before .before .before in
-      let at-visit = at-condition .before .before .before .before .before .before in
-      let at-operand = at-visit .before in
-      let start = at-operand .before .before .before .before .before .before .before .before .before in
-      let r = (ready-on _ _ _ _ _ _ _ _ _ _ _ _ _ _ _ (ready _ _ _ _ _ _ _ _ _ (start .pre .1 .0) (start .pre .1 .1 .0) (start .pre .1 .1 .1 .0)) (omega (arith, at-operand .operand .ensures, (start .pre .1 .1 .1 .1 .0))) (at-visit .visit .ensures) (at-condition .condition .given .1) (at-visit .visit .kept .1 .1 .1 .1 .0) (at-visit .visit .kept .1 .1 .1 .1 .1 .0)) in (omega (arith, start .pre .0), (r .laid, ((start .pre .1 .1 .0), (r .fresh, (start .pre .1 .1 .1 .1 .1 .0)))))
+      let at-process-left = c .before .before .before .before in
+      let at-enum-told2 = c .before .before .before .before .before .before .before in
+      let at-choice-of = c .before .before .before .before .before .before .before .before .before in
+      let at-get-constant = c .before .before .before .before .before .before .before .before .before .before in
+      let at-condition = c .before .before .before .before .before .before .before .before .before .before .before .before .before in
+      let at-visit = c .before .before .before .before .before .before .before .before .before .before .before .before .before .before .before .before .before .before .before in
+      let at-operand = c .before .before .before .before .before .before .before .before .before .before .before .before .before .before .before .before .before .before .before .before in
+      let start = c .before .before .before .before .before .before .before .before .before .before .before .before .before .before .before .before .before .before .before .before .before .before .before .before .before .before .before .before .before in
+      λ h f l. let m = at-visit .visit .ensures h f (omega (arith, at-operand .operand .ensures, (start .pre .1 .1 .1 .1 .0), l)) in ite-at (start .args .given .now) (start .args .inputs .now) (start .args .replies .now) (waysIn (start .args .dumps .now) (start .args .minimise) (start .args .replies .now)) f (start .args .node) (view h (start .args .given .now) (start .args .inputs .now) (start .args .replies .now) (start .args .result .now) (start .args .scratch .now) (start .args .walk)) _ _ _ _ _ _ _ _ _ (at-get-constant .get-constant .result) left (came-done _ _ _ _ _ _ _ m _ _ (at-condition .condition .given .1)) (at-operand .operand .ensures) (at-get-constant .get-constant .ensures) (sym (at-choice-of .choice-of .ensures) ∙ ap choiceIs (at-enum-told2 .enum-told2 .given .1)) (at-process-left .process-left .ensures (m .0) f l)
 
   same-length-5 : lts.Need-same-length-5 claims (process-ite-at t) process-ite.Post
   same-length-5 c = search needs
@@ -108,23 +125,15 @@ module _ (t : ℕ) where
   returns-3 : lts.Need-returns-3 claims (process-ite-at t) process-ite.Post
   unfolding chosenOf
   returns-3 c =
-      let at-process-left = c .before .before .before .before in
-      let at-if1 = at-process-left .before .before .before in
-      let at-value = at-if1 .before .before in
-      let at-get-constant = at-value .before .before in
-      let at-condition = at-get-constant .before .before .before in
-      let at-visit = at-condition .before .before .before .before .before .before in
-      let at-operand = at-visit .before in
-      let start = at-operand .before .before .before .before .before .before .before .before .before in
-      λ h f l. let m = at-visit .visit .ensures h f (omega (arith, at-operand .operand .ensures, (start .pre .1 .1 .1 .1 .0), l)) in ite-at (start .args .given .now) (start .args .inputs .now) (start .args .replies .now) (waysIn (start .args .dumps .now) (start .args .minimise) (start .args .replies .now)) f (start .args .node) (view h (start .args .given .now) (start .args .inputs .now) (start .args .replies .now) (start .args .result .now) (start .args .scratch .now) (start .args .walk)) _ _ _ _ _ _ _ _ _ (at-get-constant .get-constant .result) left (came-done _ _ _ _ _ _ _ m _ _ (at-condition .condition .given .1)) (at-operand .operand .ensures) (at-get-constant .get-constant .ensures) (branch-one (at-get-constant .get-constant .result) _ (at-value .value .given .1) (at-if1 .if1 .taken)) (at-process-left .process-left .ensures (m .0) f l)
-
-  process-right-requires : lts.Need-process-right-requires claims (process-ite-at t) process-ite.Post
-  process-right-requires c κs =
-      let at-condition = c .before .before .before .before .before .before .before .before .before .before in
-      let at-visit = at-condition .before .before .before .before .before .before in
-      let at-operand = at-visit .before in
-      let start = at-operand .before .before .before .before .before .before .before .before .before in
-      let r = (ready-on _ _ _ _ _ _ _ _ _ _ _ _ _ _ _ (ready _ _ _ _ _ _ _ _ _ (start .pre .1 .0) (start .pre .1 .1 .0) (start .pre .1 .1 .1 .0)) (omega (arith, at-operand .operand .ensures, (start .pre .1 .1 .1 .1 .0))) (at-visit .visit .ensures) (at-condition .condition .given .1) (at-visit .visit .kept .1 .1 .1 .1 .0) (at-visit .visit .kept .1 .1 .1 .1 .1 .0)) in (omega (arith, start .pre .0), (r .laid, ((start .pre .1 .1 .0), (r .fresh, (start .pre .1 .1 .1 .1 .1 .1)))))
+      let at-process-right = c .before .before .before .before in
+      let at-enum-told3 = c .before .before .before .before .before .before .before in
+      let at-choice-of = c .before .before .before .before .before .before .before .before .before in
+      let at-get-constant = c .before .before .before .before .before .before .before .before .before .before in
+      let at-condition = c .before .before .before .before .before .before .before .before .before .before .before .before .before in
+      let at-visit = c .before .before .before .before .before .before .before .before .before .before .before .before .before .before .before .before .before .before .before in
+      let at-operand = c .before .before .before .before .before .before .before .before .before .before .before .before .before .before .before .before .before .before .before .before in
+      let start = c .before .before .before .before .before .before .before .before .before .before .before .before .before .before .before .before .before .before .before .before .before .before .before .before .before .before .before .before .before in
+      λ h f l. let m = at-visit .visit .ensures h f (omega (arith, at-operand .operand .ensures, (start .pre .1 .1 .1 .1 .0), l)) in ite-at (start .args .given .now) (start .args .inputs .now) (start .args .replies .now) (waysIn (start .args .dumps .now) (start .args .minimise) (start .args .replies .now)) f (start .args .node) (view h (start .args .given .now) (start .args .inputs .now) (start .args .replies .now) (start .args .result .now) (start .args .scratch .now) (start .args .walk)) _ _ _ _ _ _ _ _ _ (at-get-constant .get-constant .result) right (came-done _ _ _ _ _ _ _ m _ _ (at-condition .condition .given .1)) (at-operand .operand .ensures) (at-get-constant .get-constant .ensures) (sym (at-choice-of .choice-of .ensures) ∙ ap choiceIs (at-enum-told3 .enum-told3 .given .1)) (at-process-right .process-right .ensures (m .0) f l)
 
   same-length-7 : lts.Need-same-length-7 claims (process-ite-at t) process-ite.Post
   same-length-7 c = search needs
@@ -135,43 +144,15 @@ module _ (t : ℕ) where
   returns-4 : lts.Need-returns-4 claims (process-ite-at t) process-ite.Post
   unfolding chosenOf
   returns-4 c =
-      let at-process-right = c .before .before .before .before in
-      let at-if2 = at-process-right .before .before .before in
-      let at-value = at-if2 .before .before .before in
-      let at-get-constant = at-value .before .before in
-      let at-condition = at-get-constant .before .before .before in
-      let at-visit = at-condition .before .before .before .before .before .before in
-      let at-operand = at-visit .before in
-      let start = at-operand .before .before .before .before .before .before .before .before .before in
-      λ h f l. let m = at-visit .visit .ensures h f (omega (arith, at-operand .operand .ensures, (start .pre .1 .1 .1 .1 .0), l)) in ite-at (start .args .given .now) (start .args .inputs .now) (start .args .replies .now) (waysIn (start .args .dumps .now) (start .args .minimise) (start .args .replies .now)) f (start .args .node) (view h (start .args .given .now) (start .args .inputs .now) (start .args .replies .now) (start .args .result .now) (start .args .scratch .now) (start .args .walk)) _ _ _ _ _ _ _ _ _ (at-get-constant .get-constant .result) right (came-done _ _ _ _ _ _ _ m _ _ (at-condition .condition .given .1)) (at-operand .operand .ensures) (at-get-constant .get-constant .ensures) (branch-zero (at-get-constant .get-constant .result) _ (at-value .value .given .1) (at-if2 .if2 .taken)) (at-process-right .process-right .ensures (m .0) f l)
-
-  process-both-requires-2 : lts.Need-process-both-requires-2 claims (process-ite-at t) process-ite.Post
-  process-both-requires-2 c κs =
-      let at-condition = c .before .before .before .before .before .before .before .before .before .before in
-      let at-visit = at-condition .before .before .before .before .before .before in
-      let at-operand = at-visit .before in
-      let start = at-operand .before .before .before .before .before .before .before .before .before in
-      let r = (ready-on _ _ _ _ _ _ _ _ _ _ _ _ _ _ _ (ready _ _ _ _ _ _ _ _ _ (start .pre .1 .0) (start .pre .1 .1 .0) (start .pre .1 .1 .1 .0)) (omega (arith, at-operand .operand .ensures, (start .pre .1 .1 .1 .1 .0))) (at-visit .visit .ensures) (at-condition .condition .given .1) (at-visit .visit .kept .1 .1 .1 .1 .0) (at-visit .visit .kept .1 .1 .1 .1 .1 .0)) in (omega (arith, start .pre .0), (r .laid, ((start .pre .1 .1 .0), (r .fresh, ((start .pre .1 .1 .1 .1 .1 .0), (start .pre .1 .1 .1 .1 .1 .1))))))
-
-  same-length-9 : lts.Need-same-length-9 claims (process-ite-at t) process-ite.Post
-  same-length-9 c = search needs
-
-  same-length-10 : lts.Need-same-length-10 claims (process-ite-at t) process-ite.Post
-  same-length-10 c = search needs
-
-  returns-5 : lts.Need-returns-5 claims (process-ite-at t) process-ite.Post
-  unfolding chosenOf
-  returns-5 c =
-      let at-process-both2 = c .before .before .before .before in
-      let at-if2 = at-process-both2 .before .before .before in
-      let at-if1 = at-if2 .before in
-      let at-value = at-if1 .before .before in
-      let at-get-constant = at-value .before .before in
-      let at-condition = at-get-constant .before .before .before in
-      let at-visit = at-condition .before .before .before .before .before .before in
-      let at-operand = at-visit .before in
-      let start = at-operand .before .before .before .before .before .before .before .before .before in
-      λ h f l. let m = at-visit .visit .ensures h f (omega (arith, at-operand .operand .ensures, (start .pre .1 .1 .1 .1 .0), l)) in ite-at (start .args .given .now) (start .args .inputs .now) (start .args .replies .now) (waysIn (start .args .dumps .now) (start .args .minimise) (start .args .replies .now)) f (start .args .node) (view h (start .args .given .now) (start .args .inputs .now) (start .args .replies .now) (start .args .result .now) (start .args .scratch .now) (start .args .walk)) _ _ _ _ _ _ _ _ _ (at-get-constant .get-constant .result) undecided (came-done _ _ _ _ _ _ _ m _ _ (at-condition .condition .given .1)) (at-operand .operand .ensures) (at-get-constant .get-constant .ensures) (branch-other (at-get-constant .get-constant .result) _ (at-value .value .given .1) (at-if1 .if1 .left) (at-if2 .if2 .left)) (at-process-both2 .process-both2 .ensures (m .0) f l)
+      let at-process-both = c .before .before .before .before in
+      let at-enum-told4 = c .before .before .before .before .before .before .before in
+      let at-choice-of = c .before .before .before .before .before .before .before .before .before in
+      let at-get-constant = c .before .before .before .before .before .before .before .before .before .before in
+      let at-condition = c .before .before .before .before .before .before .before .before .before .before .before .before .before in
+      let at-visit = c .before .before .before .before .before .before .before .before .before .before .before .before .before .before .before .before .before .before .before in
+      let at-operand = c .before .before .before .before .before .before .before .before .before .before .before .before .before .before .before .before .before .before .before .before in
+      let start = c .before .before .before .before .before .before .before .before .before .before .before .before .before .before .before .before .before .before .before .before .before .before .before .before .before .before .before .before .before in
+      λ h f l. let m = at-visit .visit .ensures h f (omega (arith, at-operand .operand .ensures, (start .pre .1 .1 .1 .1 .0), l)) in ite-at (start .args .given .now) (start .args .inputs .now) (start .args .replies .now) (waysIn (start .args .dumps .now) (start .args .minimise) (start .args .replies .now)) f (start .args .node) (view h (start .args .given .now) (start .args .inputs .now) (start .args .replies .now) (start .args .result .now) (start .args .scratch .now) (start .args .walk)) _ _ _ _ _ _ _ _ _ (at-get-constant .get-constant .result) undecided (came-done _ _ _ _ _ _ _ m _ _ (at-condition .condition .given .1)) (at-operand .operand .ensures) (at-get-constant .get-constant .ensures) (sym (at-choice-of .choice-of .ensures) ∙ ap choiceIs (at-enum-told4 .enum-told4 .given .1)) (at-process-both .process-both .ensures (m .0) f l)
 
   pub proved : {M : Type 1} → lts.Closed claims (process-ite-at t) process-ite.Post M
-  proved = lts.spec claims (process-ite-at t) process-ite.Post operand-requires visit-requires enum-known-condition enum-told same-length same-length-2 returns get-constant-requires enum-known-value enum-told-2 process-both-requires same-length-3 same-length-4 returns-2 process-left-requires same-length-5 same-length-6 returns-3 process-right-requires same-length-7 same-length-8 returns-4 process-both-requires-2 same-length-9 same-length-10 returns-5
+  proved = lts.spec claims (process-ite-at t) process-ite.Post operand-requires visit-requires enum-known-condition enum-told same-length same-length-2 returns get-constant-requires choice-of-requires enum-told-2 process-left-requires enum-told-3 process-right-requires enum-told-4 process-both-requires same-length-3 same-length-4 returns-2 same-length-5 same-length-6 returns-3 same-length-7 same-length-8 returns-4
