@@ -7,7 +7,7 @@ use crate::fold::Constant;
 use crate::lists::put_entry;
 use crate::smt_solver::Asked;
 use crate::smt_solver::ask;
-use crate::visit::visit;
+use crate::visit::visit_entry;
 use crate::walk::Visited;
 use crate::walk::Walk;
 use tables::refusal::Refusal;
@@ -124,7 +124,7 @@ fn should_retain_bad_state(
     requires { ⌜ (bad < countOf (now given)) × Spare (now given) (now scratch) walk 1 ⌝ }
     ensures { λ r. ⌜ Retains (now (given .entry)) (now (inputs .entry)) (now (replies .entry)) (now (result .entry)) (now (scratch .entry)) walk r (now (result .exit)) (now (scratch .exit)) (retainRule (now (given .entry)) (waysIn (now (dumps .entry)) minimise (now (replies .entry))) how place bad) ⌝ }
 {
-    let visited = visit(
+    let visited = visit_entry(
         given,
         inputs,
         replies,

@@ -1,6 +1,6 @@
 // Lists of nodes in scratch, after the words of the walk, and the visits of such a list.
 use crate::buffers::number;
-use crate::visit::visit;
+use crate::visit::visit_entry;
 use crate::walk::Visited;
 use crate::walk::Walk;
 use crate::walk::Walked;
@@ -40,7 +40,7 @@ pub(crate) fn visit_in(
     ensures { λ r. ⌜ Visits (now (given .entry)) (now (inputs .entry)) (now (replies .entry)) (now (result .entry)) (take at (now (scratch .entry))) walk r (now (result .exit)) (take at (now (scratch .exit))) (node + 1) (λ f σ. visitOf (now (given .entry)) (waysIn (now (dumps .entry)) minimise (now (replies .entry))) f σ node) ⌝ }
     ensures { λ r. ⌜ drop at (now (scratch .exit)) ≡ drop at (now (scratch .entry)) ⌝ }
 {
-    visit(
+    visit_entry(
         given,
         inputs,
         replies,

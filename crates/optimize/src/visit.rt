@@ -82,7 +82,45 @@ fn is_replaced(given: &[u64], scratch: &[u64], node: usize) -> bool
 }
 
 // Visits a node: processes it the first time, and later gives what was recorded.
-pub(crate) fn visit(
+fn visit(
+    given: &[u64],
+    inputs: &[u64],
+    replies: &[u64],
+    dumps: &[u8],
+    result: &mut [u64],
+    scratch: &mut [u64],
+    minimise: bool,
+    walk: Walk,
+    node: usize,
+) -> Visited
+    requires { ⌜ Laid (now given) (now dumps) (now inputs) (now replies) minimise (now result) (now scratch) walk ⌝ }
+    requires { ⌜ node < countOf (now given) ⌝ }
+    ensures { λ r. ⌜ Visits (now (given .entry)) (now (inputs .entry)) (now (replies .entry)) (now (result .entry)) (now (scratch .entry)) walk r (now (result .exit)) (now (scratch .exit)) (node + 1) (λ f σ. visitOf (now (given .entry)) (waysIn (now (dumps .entry)) minimise (now (replies .entry))) f σ node) ⌝ }
+{
+    let mark = scratch[node];
+    if mark == 0 {
+        return process(
+            given,
+            inputs,
+            replies,
+            dumps,
+            result,
+            scratch,
+            minimise,
+            walk,
+            node,
+        );
+    }
+    if mark == 1 {
+        return Visited::Done(walk, node);
+    }
+    let n = node_count(given);
+    Visited::Done(walk, number(scratch[n + node]))
+}
+
+// Visits an entry of a list, as `visit` does an operand. A second caller of `process` keeps the two apart when they are compiled: the visit of
+// an operand that was visited before is then short.
+pub(crate) fn visit_entry(
     given: &[u64],
     inputs: &[u64],
     replies: &[u64],

@@ -12,17 +12,17 @@ use Rattle.optimize.proofs.Entries.{part-front, part-rest, part-whole, 
 use Rattle.optimize.proofs.lists.visit_in.Statement.{statement}
 use Rattle.optimize.proofs.lists.visit_in.Tie as tie
 
-sub-visit : tie.Need-sub-visit
-sub-visit c = search needs
+sub-visit-entry : tie.Need-sub-visit-entry
+sub-visit-entry c = search needs
 
-part-visit-start : tie.Need-part-visit-start
-part-visit-start c = search needs
+part-visit-entry-start : tie.Need-part-visit-entry-start
+part-visit-entry-start c = search needs
 
-part-visit-end : tie.Need-part-visit-end
-part-visit-end c = search needs
+part-visit-entry-end : tie.Need-part-visit-entry-end
+part-visit-entry-end c = search needs
 
-visit-requires : tie.Need-visit-requires
-visit-requires c κs =
+visit-entry-requires : tie.Need-visit-entry-requires
+visit-entry-requires c κs =
     let start = c .before .before .before .before .before .before .before .before in
     (subst (λ z. Laid (start .args .given .now) (start .args .dumps .now) (start .args .inputs .now) (start .args .replies .now) (start .args .minimise) (start .args .result .now) (take z (start .args .scratch .now)) (start .args .walk)) (zero-less (start .args .at)) (start .pre .1), start .pre .0 .1)
 
@@ -33,13 +33,13 @@ same-length-2 : tie.Need-same-length-2
 same-length-2 c =
     let at-visit = c .before .before .before .before in
     let start = at-visit .before .before .before .before .before .before .before .before .before in
-    part-whole (start .args .scratch .now) (at-visit .visit .last .1 .1 .1 .1 .1 .0) (start .args .at) ((start .args .at) - 0) (omega arith) (start .pre .0 .0) (at-visit .visit .kept .1 .1 .1 .1 .1 .0)
+    part-whole (start .args .scratch .now) (at-visit .visit-entry .last .1 .1 .1 .1 .1 .0) (start .args .at) ((start .args .at) - 0) (omega arith) (start .pre .0 .0) (at-visit .visit-entry .kept .1 .1 .1 .1 .1 .0)
 
 returns : tie.Need-returns
 returns c =
     let at-visit = c .before .before .before .before in
     let start = at-visit .before .before .before .before .before .before .before .before .before in
-    ((λ h f l. subst (λ z. Meets (start .args .given .now) (start .args .inputs .now) (start .args .replies .now) (at-visit .visit .result) (at-visit .visit .last .1 .1 .1 .1 .0) z (visitOf (start .args .given .now) (waysIn (start .args .dumps .now) (start .args .minimise) (start .args .replies .now)) f (view h (start .args .given .now) (start .args .inputs .now) (start .args .replies .now) (start .args .result .now) (take (start .args .at) (start .args .scratch .now)) (start .args .walk)) (start .args .node))) (sym (part-front (start .args .scratch .now) (at-visit .visit .last .1 .1 .1 .1 .1 .0) (start .args .at) ((start .args .at) - 0) (omega arith) (start .pre .0 .0) (at-visit .visit .kept .1 .1 .1 .1 .1 .0))) (subst (λ z. Meets (start .args .given .now) (start .args .inputs .now) (start .args .replies .now) (at-visit .visit .result) (at-visit .visit .last .1 .1 .1 .1 .0) (at-visit .visit .last .1 .1 .1 .1 .1 .0) (visitOf (start .args .given .now) (waysIn (start .args .dumps .now) (start .args .minimise) (start .args .replies .now)) f (view h (start .args .given .now) (start .args .inputs .now) (start .args .replies .now) (start .args .result .now) (take z (start .args .scratch .now)) (start .args .walk)) (start .args .node))) (sym (zero-less (start .args .at))) (at-visit .visit .ensures h f l))), part-rest (start .args .scratch .now) (at-visit .visit .last .1 .1 .1 .1 .1 .0) (start .args .at) ((start .args .at) - 0) (omega arith) (start .pre .0 .0) (at-visit .visit .kept .1 .1 .1 .1 .1 .0))
+    ((λ h f l. subst (λ z. Meets (start .args .given .now) (start .args .inputs .now) (start .args .replies .now) (at-visit .visit-entry .result) (at-visit .visit-entry .last .1 .1 .1 .1 .0) z (visitOf (start .args .given .now) (waysIn (start .args .dumps .now) (start .args .minimise) (start .args .replies .now)) f (view h (start .args .given .now) (start .args .inputs .now) (start .args .replies .now) (start .args .result .now) (take (start .args .at) (start .args .scratch .now)) (start .args .walk)) (start .args .node))) (sym (part-front (start .args .scratch .now) (at-visit .visit-entry .last .1 .1 .1 .1 .1 .0) (start .args .at) ((start .args .at) - 0) (omega arith) (start .pre .0 .0) (at-visit .visit-entry .kept .1 .1 .1 .1 .1 .0))) (subst (λ z. Meets (start .args .given .now) (start .args .inputs .now) (start .args .replies .now) (at-visit .visit-entry .result) (at-visit .visit-entry .last .1 .1 .1 .1 .0) (at-visit .visit-entry .last .1 .1 .1 .1 .1 .0) (visitOf (start .args .given .now) (waysIn (start .args .dumps .now) (start .args .minimise) (start .args .replies .now)) f (view h (start .args .given .now) (start .args .inputs .now) (start .args .replies .now) (start .args .result .now) (take z (start .args .scratch .now)) (start .args .walk)) (start .args .node))) (sym (zero-less (start .args .at))) (at-visit .visit-entry .ensures h f l))), part-rest (start .args .scratch .now) (at-visit .visit-entry .last .1 .1 .1 .1 .1 .0) (start .args .at) ((start .args .at) - 0) (omega arith) (start .pre .0 .0) (at-visit .visit-entry .kept .1 .1 .1 .1 .1 .0))
 
 pub visit-in-spec : {M : Type 1} → statement M
-visit-in-spec = tie.close (tie.spec sub-visit part-visit-start part-visit-end visit-requires same-length same-length-2 returns)
+visit-in-spec = tie.close (tie.spec sub-visit-entry part-visit-entry-start part-visit-entry-end visit-entry-requires same-length same-length-2 returns)
