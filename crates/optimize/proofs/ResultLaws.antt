@@ -17,7 +17,8 @@ use Rattle.rules.specs.Whole.{Folded}
 use Rattle.rules.specs.Result.{nodeWords, constWords, markWords, isReplaced, gather, questionWords, listed, tallyOf, resultWords}
 use Rattle.rules.proofs.Flat.{gather-snoc}
 use Rattle.optimize.specs.View.{countOf, wordOf, firsts, rowsOf, markOf, questionOf, view}
-use Rattle.optimize.specs.ResultView.{listsAt, partOf, Finished, foldedIn, ModelOf, Wrote, keptWords, restWords, Handed}
+use Rattle.optimize.specs.Lists.{entriesOf}
+use Rattle.optimize.specs.ResultView.{listsAt, Finished, foldedIn, ModelOf, Wrote, keptWords, restWords, Handed}
 use Rattle.optimize.specs.declared.walk.Walk.{Walk}
 use Rattle.optimize.specs.declared.result.Kept.{Kept}
 use Rattle.optimize.specs.declared.result.Sizes.{Sizes}
@@ -25,23 +26,23 @@ use Rattle.optimize.proofs.Views.{firsts-length, row-below, row-made}
 
 -- ---- parts of a list
 -- a part, word by word
-words-at : (c a : ℕ) (l : List ℕ) → a + c ≤ length l → partOf l a c ≡ firsts c (λ j. getD l (a + j) 0)
+words-at : (c a : ℕ) (l : List ℕ) → a + c ≤ length l → entriesOf l a c ≡ firsts c (λ j. getD l (a + j) 0)
 unfolding firsts
 words-at zero a l h = refl
 words-at (suc c) a l h =
     take-suc (drop a l) c 0 (omega (arith, length-drop a l))
     ∙ ap₂ (λ x y. x ++ (y ∷ [])) (words-at c a l (omega arith)) (getD-drop a l c 0)
 
-part-length : (l : List ℕ) (a c : ℕ) → a + c ≤ length l → length (partOf l a c) ≡ c
+part-length : (l : List ℕ) (a c : ℕ) → a + c ≤ length l → length (entriesOf l a c) ≡ c
 part-length l a c h = length-take-le c (drop a l) (omega (arith, length-drop a l))
 
 -- a part of p more words
-part-more : (l : List ℕ) (a p c : ℕ) → partOf l a (p * suc c) ≡ partOf l a (p * c) ++ partOf l (a + p * c) p
+part-more : (l : List ℕ) (a p c : ℕ) → entriesOf l a (p * suc c) ≡ entriesOf l a (p * c) ++ entriesOf l (a + p * c) p
 part-more l a p c =
     ap (λ i. take i (drop a l)) (mul-suc p c) ∙ take-add (p * c) p (drop a l) ∙ ap (λ x. take (p * c) (drop a l) ++ take p x) (drop-drop (p * c) a l)
 
 -- a run of parts of p words each is one part
-gather-part : (p c k a : ℕ) (f : ℕ → List ℕ) (l : List ℕ) → ((j : ℕ) → j < c → f (k + j) ≡ partOf l (a + p * j) p) → gather c k f ≡ partOf l a (p * c)
+gather-part : (p c k a : ℕ) (f : ℕ → List ℕ) (l : List ℕ) → ((j : ℕ) → j < c → f (k + j) ≡ entriesOf l (a + p * j) p) → gather c k f ≡ entriesOf l a (p * c)
 unfolding gather
 gather-part p zero k a f l h = ap (λ i. take i (drop a l)) (sym (mul-zero p))
 gather-part p (suc c) k a f l h =
@@ -50,7 +51,7 @@ gather-part p (suc c) k a f l h =
 -- ---- rows and constants
 module _ (n made : ℕ) (R : List ℕ) where
   row-words : (j : ℕ) → j < n → 1 + 6 * n ≤ length R → kindCode (kindOf (wordOf R j 0)) ≡ wordOf R j 0
-      → nodeWords (rowsOf n made R (0 + j)) ≡ partOf R (1 + 6 * j) 6
+      → nodeWords (rowsOf n made R (0 + j)) ≡ entriesOf R (1 + 6 * j) 6
   unfolding firsts
   row-words j h l known =
       ap (λ i. nodeWords (rowsOf n made R i)) (zero-add j) ∙ ap nodeWords (row-below n made R j h)
@@ -58,11 +59,11 @@ module _ (n made : ℕ) (R : List ℕ) where
       ∙ sym (words-at 6 (1 + 6 * j) R (omega arith))
 
   rows-words : 1 + 6 * n ≤ length R → ((v : ℕ) → v < n → kindCode (kindOf (wordOf R v 0)) ≡ wordOf R v 0)
-      → gather n 0 (λ k. nodeWords (rowsOf n made R k)) ≡ partOf R 1 (6 * n)
+      → gather n 0 (λ k. nodeWords (rowsOf n made R k)) ≡ entriesOf R 1 (6 * n)
   rows-words l known = gather-part 6 n 0 1 (λ k. nodeWords (rowsOf n made R k)) R (λ j h. row-words j h l (known j h))
 
   const-words : (j : ℕ) → j < 2 + made → 2 + 6 * n + 2 * (2 + made) ≤ length R
-      → constWords (rowsOf n made R (n + j)) ≡ partOf R (2 + 6 * n + 2 * j) 2
+      → constWords (rowsOf n made R (n + j)) ≡ entriesOf R (2 + 6 * n + 2 * j) 2
   unfolding firsts
   const-words j h l =
       let a : ℕ = 2 + 6 * n + 2 * j in
@@ -72,7 +73,7 @@ module _ (n made : ℕ) (R : List ℕ) where
       ∙ ap (λ i. getD R i 0 ∷ getD R (a + 1) 0 ∷ []) (sym (add-zero a))
       ∙ sym (words-at 2 a R (omega arith))
 
-  consts-words : 2 + 6 * n + 2 * (2 + made) ≤ length R → gather (2 + made) n (λ k. constWords (rowsOf n made R k)) ≡ partOf R (2 + 6 * n) (2 * (2 + made))
+  consts-words : 2 + 6 * n + 2 * (2 + made) ≤ length R → gather (2 + made) n (λ k. constWords (rowsOf n made R k)) ≡ entriesOf R (2 + 6 * n) (2 * (2 + made))
   consts-words l = gather-part 2 (2 + made) n (2 + 6 * n) (λ k. constWords (rowsOf n made R k)) R (λ j h. const-words j h l)
 
 -- ---- questions
@@ -81,7 +82,7 @@ unfolding questionWords
 question-append [] ys = refl
 question-append (q ∷ xs) ys = ap (λ l. q .kind ∷ q .first ∷ q .second ∷ q .reply ∷ l) (question-append xs ys)
 
-questions-words : (c n : ℕ) (S : List ℕ) → 2 * n + 4 * c ≤ length S → questionWords (firsts c (questionOf n S)) ≡ partOf S (2 * n) (4 * c)
+questions-words : (c n : ℕ) (S : List ℕ) → 2 * n + 4 * c ≤ length S → questionWords (firsts c (questionOf n S)) ≡ entriesOf S (2 * n) (4 * c)
 unfolding questionWords firsts
 questions-words zero n S h = ap (λ i. take i (drop (2 * n) S)) (sym (mul-zero 4))
 questions-words (suc c) n S h =
@@ -95,15 +96,15 @@ questions-words (suc c) n S h =
 same : {x y : List ℕ} {xs ys : List (List ℕ)} → x ≡ y → xs ≡ ys → x ∷ xs ≡ y ∷ ys
 same e f = ap₂ (λ a b. a ∷ b) e f
 
-listed-part : (l : List ℕ) (a c : ℕ) → a + c ≤ length l → listed (partOf l a c) ≡ c ∷ partOf l a c
-listed-part l a c h = ap (λ i. i ∷ partOf l a c) (part-length l a c h)
+listed-part : (l : List ℕ) (a c : ℕ) → a + c ≤ length l → listed (entriesOf l a c) ≡ c ∷ entriesOf l a c
+listed-part l a c h = ap (λ i. i ∷ entriesOf l a c) (part-length l a c h)
 
-listed-left : (l : List ℕ) (t : ℕ) → listed (drop t l) ≡ (length l - t) ∷ partOf l t (length l - t)
+listed-left : (l : List ℕ) (t : ℕ) → listed (drop t l) ≡ (length l - t) ∷ entriesOf l t (length l - t)
 listed-left l t = ap₂ (λ i x. i ∷ x) (length-drop t l) (sym (take-all (length l - t) (drop t l) (omega (arith, length-drop t l))))
 
 -- rows and constants, each after its count
 abbrev pub frontWords : ℕ → ℕ → List ℕ → List ℕ
-frontWords n made R = (n ∷ partOf R 1 (6 * n)) ++ ((2 + made) ∷ partOf R (2 + 6 * n) (2 * (2 + made)))
+frontWords n made R = (n ∷ entriesOf R 1 (6 * n)) ++ ((2 + made) ∷ entriesOf R (2 + 6 * n) (2 * (2 + made)))
 
 -- replacements after their count
 abbrev pub pairWords : ℕ → List ℕ → List ℕ
@@ -138,12 +139,12 @@ module _ (h : List Held) (d g inputs replies R S : List ℕ) (w : Walk) (k : Kep
       let e₂ : length (m .replies) - length (drop (w .used) replies) ≡ w .used = omega (arith, ap length (model .replies), length-drop (w .used) replies) in
       ap₂ (λ x y. x ∷ y ∷ w .looked ∷ w .passed ∷ verdict ∷ []) e₁ e₂
 
-  rows-section : length (m .table) ∷ gather (length (m .table)) 0 (λ j. nodeWords (rowsOf n (w .made) R j)) ≡ n ∷ partOf R 1 (6 * n)
+  rows-section : length (m .table) ∷ gather (length (m .table)) 0 (λ j. nodeWords (rowsOf n (w .made) R j)) ≡ n ∷ entriesOf R 1 (6 * n)
   rows-section =
       ap (λ i. i ∷ gather i 0 (λ j. nodeWords (rowsOf n (w .made) R j))) (model .nodes)
       ∙ ap (λ x. n ∷ x) (rows-words n (w .made) R (omega (arith, fine .room)) (fine .known))
 
-  consts-section : (2 + w .made) ∷ gather (2 + w .made) (length (m .table)) (λ j. constWords (rowsOf n (w .made) R j)) ≡ (2 + w .made) ∷ partOf R (2 + 6 * n) (2 * (2 + w .made))
+  consts-section : (2 + w .made) ∷ gather (2 + w .made) (length (m .table)) (λ j. constWords (rowsOf n (w .made) R j)) ≡ (2 + w .made) ∷ entriesOf R (2 + 6 * n) (2 * (2 + w .made))
   consts-section =
       ap (λ i. (2 + w .made) ∷ gather (2 + w .made) i (λ j. constWords (rowsOf n (w .made) R j))) (model .nodes)
       ∙ ap (λ x. (2 + w .made) ∷ x) (consts-words n (w .made) R (omega (arith, fine .room, fine .made)))
@@ -151,11 +152,11 @@ module _ (h : List Held) (d g inputs replies R S : List ℕ) (w : Walk) (k : Kep
   pairs-section : sum (length (m .table)) (λ j. isReplaced (markOf n S j)) ∷ gather (length (m .table)) 0 (λ j. markWords j (markOf n S j)) ≡ pairWords n S
   pairs-section = ap (λ i. sum i (λ j. isReplaced (markOf n S j)) ∷ gather i 0 (λ j. markWords j (markOf n S j))) (model .nodes)
 
-  questions-section : length (firsts (w .asked) (questionOf n S)) ∷ questionWords (firsts (w .asked) (questionOf n S)) ≡ w .asked ∷ partOf S (n + n) (4 * w .asked)
+  questions-section : length (firsts (w .asked) (questionOf n S)) ∷ questionWords (firsts (w .asked) (questionOf n S)) ≡ w .asked ∷ entriesOf S (n + n) (4 * w .asked)
   questions-section =
       let e : 2 * n ≡ n + n = omega arith in
       ap₂ (λ i x. i ∷ x) (firsts-length (w .asked) (questionOf n S))
-      (questions-words (w .asked) n S (omega (arith, fine .scratch, fine .asked)) ∙ ap (λ i. partOf S i (4 * w .asked)) e)
+      (questions-words (w .asked) n S (omega (arith, fine .scratch, fine .asked)) ∙ ap (λ i. entriesOf S i (4 * w .asked)) e)
 
   pub sections-are : flatten (resultWords m folded) ≡ frontWords n (w .made) R ++ (pairWords n S ++ (keptWords S lists k z ++ restWords inputs S n w verdict))
   unfolding resultWords foldedIn view

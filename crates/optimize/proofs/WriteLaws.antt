@@ -19,7 +19,8 @@ use Rattle.rules.specs.Walk.{fresh, kept, replaced}
 use Rattle.rules.specs.Result.{gather, isReplaced, markWords, listed}
 use Rattle.rules.proofs.Flat.{gather-snoc}
 use Rattle.optimize.specs.View.{markBy, markOf}
-use Rattle.optimize.specs.ResultView.{partOf, Wrote}
+use Rattle.optimize.specs.Lists.{entriesOf}
+use Rattle.optimize.specs.ResultView.{Wrote}
 
 pub wrote-none : (R : List ℕ) (at : ℕ) → at ≤ length R → Wrote R R at at []
 wrote-none R at h = record { front = sym (append-nil (take at R)); fits = h }
@@ -38,7 +39,7 @@ wrote-stores R at vs h =
     }
 
 pub wrote-section : (R Q source : List ℕ) (at count start words : ℕ) → start + words ≤ length source → at + 1 + words ≤ length R
-    → Q ≡ paste (set R at count) (at + 1) (drop start source) words → Wrote R Q at (at + 1 + words) (count ∷ partOf source start words)
+    → Q ≡ paste (set R at count) (at + 1) (drop start source) words → Wrote R Q at (at + 1 + words) (count ∷ entriesOf source start words)
 wrote-section R Q source at count start words h l e =
     let d : words ≤ length (drop start source) = omega (arith, length-drop start source) in
     let n : at + 1 ≤ length (set R at count) = omega (arith, length-set R at count) in
@@ -58,7 +59,7 @@ wrote-after R Q at v r ws h w =
 
 -- two counts before words that stand in place: m of them, then p
 counts-front : (x v c m p : ℕ) (R : List ℕ) → m < length R
-    → take (suc (m + suc p)) (set (set (x ∷ R) 0 v) (suc m) c) ≡ (v ∷ partOf (x ∷ R) 1 m) ++ (c ∷ partOf (x ∷ R) (suc (suc m)) p)
+    → take (suc (m + suc p)) (set (set (x ∷ R) 0 v) (suc m) c) ≡ (v ∷ entriesOf (x ∷ R) 1 m) ++ (c ∷ entriesOf (x ∷ R) (suc (suc m)) p)
 counts-front x v c m p R h =
     let l : m < length (set R m c) = omega (arith, length-set R m c) in
     ap (λ w. v ∷ w)
@@ -68,7 +69,7 @@ counts-front x v c m p R h =
 
 pub wrote-counts : (R : List ℕ) (n made : ℕ) → made ≤ n → 22 * n + 22 ≤ length R
     → Wrote R (set (set R 0 n) (1 + 6 * n) (2 + made)) 0 (2 + 6 * n + 2 * (2 + made))
-    ((n ∷ partOf R 1 (6 * n)) ++ ((2 + made) ∷ partOf R (2 + 6 * n) (2 * (2 + made))))
+    ((n ∷ entriesOf R 1 (6 * n)) ++ ((2 + made) ∷ entriesOf R (2 + 6 * n) (2 * (2 + made))))
 wrote-counts [] n made h l = let o : ⊥ = omega arith in absurd o
 wrote-counts (x ∷ R) n made h l =
     let e₁ : 1 + 6 * n ≡ suc (6 * n) = omega arith in
@@ -77,7 +78,7 @@ wrote-counts (x ∷ R) n made h l =
     record {
       front =
           ap₂ (λ i j. take i (set (set (x ∷ R) 0 n) j (2 + made))) e₂ e₁ ∙ counts-front x n (2 + made) (6 * n) (2 * (2 + made)) R (omega arith)
-          ∙ ap (λ i. (n ∷ partOf (x ∷ R) 1 (6 * n)) ++ ((2 + made) ∷ partOf (x ∷ R) i (2 * (2 + made)))) (sym e₃);
+          ∙ ap (λ i. (n ∷ entriesOf (x ∷ R) 1 (6 * n)) ++ ((2 + made) ∷ entriesOf (x ∷ R) i (2 * (2 + made)))) (sym e₃);
       fits = omega (arith, length-set (set (x ∷ R) 0 n) (1 + 6 * n) (2 + made));
     }
 

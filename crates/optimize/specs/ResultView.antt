@@ -14,6 +14,7 @@ use Rattle.rules.specs.Walk.{Held}
 use Rattle.rules.specs.Whole.{Folded}
 use Rattle.rules.specs.Result.{listed}
 use Rattle.optimize.specs.View.{countOf, wordOf, view}
+use Rattle.optimize.specs.Lists.{entriesOf}
 use Rattle.optimize.specs.declared.walk.Walk.{Walk}
 use Rattle.optimize.specs.declared.result.Kept.{Kept}
 use Rattle.optimize.specs.declared.result.Sizes.{Sizes}
@@ -35,10 +36,6 @@ untouched = record { made = 0; taken = 0; used = 0; asked = 0; looked = 0; passe
 abbrev pub listsAt : ℕ → ℕ → ℕ
 listsAt n b = 2 * n + 4 * (3 * n + b + 1)
 
--- so many words from a place on
-abbrev pub partOf : List ℕ → ℕ → ℕ → List ℕ
-partOf ws at c = take c (drop at ws)
-
 -- room, counters and kinds as the walk leaves them, for the inputs given
 pub record Finished (g inputs R S : List ℕ) (w : Walk) (k : Kept) (z : Sizes) : Type 0 where
   pub counted : 0 < length g
@@ -59,9 +56,9 @@ foldedIn h d g inputs replies R S w k z verdict =
     let at : ℕ = listsAt (countOf g) (z .initial + z .later) in
     record {
       state = view h g inputs replies R S w;
-      sequentials = partOf S at (k .sequentials);
-      initial = partOf S (at + z .sequentials) (k .initial);
-      later = partOf S (at + z .sequentials + z .initial) (k .later);
+      sequentials = entriesOf S at (k .sequentials);
+      initial = entriesOf S (at + z .sequentials) (k .initial);
+      later = entriesOf S (at + z .sequentials + z .initial) (k .later);
       dropped = d;
       verdict = verdict;
     }
@@ -88,14 +85,14 @@ pub record KeptIn (S : List ℕ) (at : ℕ) (k : Kept) (z : Sizes) : Type 0 wher
 -- the three kept lists, each after its count
 abbrev pub keptWords : List ℕ → ℕ → Kept → Sizes → List ℕ
 keptWords S at k z =
-    (k .sequentials ∷ partOf S at (k .sequentials))
-    ++ ((k .initial ∷ partOf S (at + z .sequentials) (k .initial)) ++ (k .later ∷ partOf S (at + z .sequentials + z .initial) (k .later)))
+    (k .sequentials ∷ entriesOf S at (k .sequentials))
+    ++ ((k .initial ∷ entriesOf S (at + z .sequentials) (k .initial)) ++ (k .later ∷ entriesOf S (at + z .sequentials + z .initial) (k .later)))
 
 -- the inputs left, the questions and the tally, each after its count
 abbrev pub restWords : List ℕ → List ℕ → ℕ → Walk → ℕ → List ℕ
 restWords inputs S n w verdict =
-    ((length inputs - w .taken) ∷ partOf inputs (w .taken) (length inputs - w .taken))
-    ++ ((w .asked ∷ partOf S (n + n) (4 * w .asked)) ++ listed (w .taken ∷ w .used ∷ w .looked ∷ w .passed ∷ verdict ∷ []))
+    ((length inputs - w .taken) ∷ entriesOf inputs (w .taken) (length inputs - w .taken))
+    ++ ((w .asked ∷ entriesOf S (n + n) (4 * w .asked)) ++ listed (w .taken ∷ w .used ∷ w .looked ∷ w .passed ∷ verdict ∷ []))
 
 -- ws, zeros in the rest of the room, and how many words ws are
 pub record Handed (ws : List ℕ) (room : ℕ) (Q : List ℕ) (r : ℕ) : Type 0 where

@@ -10,7 +10,8 @@ ghost use Rattle.rules.specs.Model.{Model};
 ghost use Rattle.rules.specs.Walk.{Held, start};
 ghost use Rattle.rules.specs.Result.{isReplaced, markWords, gather, listed, resultWords};
 ghost use Rattle.optimize.specs.View.{tableOf, markOf, view};
-ghost use Rattle.optimize.specs.ResultView.{Ready, untouched, Finished, foldedIn, ModelOf, partOf, Wrote, KeptIn, keptWords, restWords, Handed};
+ghost use Rattle.optimize.specs.Lists.{entriesOf};
+ghost use Rattle.optimize.specs.ResultView.{Ready, untouched, Finished, foldedIn, ModelOf, Wrote, KeptIn, keptWords, restWords, Handed};
 
 // How many entries of the three lists are kept; they stand in scratch.
 pub(crate) struct Kept {
@@ -81,7 +82,7 @@ fn write_section(
     at: usize,
 ) -> usize
     requires { ⌜ (start + words ≤ length (now source)) × (at + 1 + words ≤ length (now result)) ⌝ }
-    ensures { λ r. ⌜ Wrote (now (result .entry)) (now (result .exit)) at r (count ∷ partOf (now (source .entry)) start words) ⌝ }
+    ensures { λ r. ⌜ Wrote (now (result .entry)) (now (result .exit)) at r (count ∷ entriesOf (now (source .entry)) start words) ⌝ }
     ensures { λ r. ⌜ r ≡ at + 1 + words ⌝ }
 {
     result[at] = count;
@@ -152,7 +153,7 @@ fn write_tally(walk: Walk, verdict: u64, result: &mut [u64], at: usize) -> usize
 // Puts the counts before the rows and before the constants, which stand in place. Answers the place after the constants.
 fn write_counts(n: usize, made: usize, result: &mut [u64]) -> usize
     requires { ⌜ (made ≤ n) × (n ≤ 4096) × (22 * n + 22 ≤ length (now result)) ⌝ }
-    ensures { λ r. ⌜ Wrote (now (result .entry)) (now (result .exit)) 0 r ((n ∷ partOf (now (result .entry)) 1 (6 * n)) ++ ((2 + made) ∷ partOf (now (result .entry)) (2 + 6 * n) (2 * (2 + made)))) ⌝ }
+    ensures { λ r. ⌜ Wrote (now (result .entry)) (now (result .exit)) 0 r ((n ∷ entriesOf (now (result .entry)) 1 (6 * n)) ++ ((2 + made) ∷ entriesOf (now (result .entry)) (2 + 6 * n) (2 * (2 + made)))) ⌝ }
     ensures { λ r. ⌜ r ≡ 2 + 6 * n + 2 * (2 + made) ⌝ }
 {
     result[0] = n as u64;
