@@ -27,6 +27,7 @@ use Rattle.tables.specs.declared.refusal.Refusal as why
 use Rattle.tables.specs.declared.judge.Verdict.{Verdict}
 use Rattle.tables.proofs.JudgeLaws.{rows-count}
 use Rattle.tables.proofs.ListLaws.{list-count, nodes-few}
+use Rattle.tables.proofs.NameLaws.{counted-refused}
 
 -- ---- the places of an accepted call
 pub not-accepted : {A : Type 0} (r : why.Refusal) (s : Sections) (k : ℕ) → Verdict.Refused r ≡ Verdict.Accepted s k → A
@@ -108,11 +109,6 @@ module _ (mode : ℕ) (ws bytes : List ℕ) (resultRoom scratchRoom : ℕ) where
             accepted e = rw (mode-taken m, c, n, enough-room (needOf s) resultRoom scratchRoom l k, e)
 
 -- ---- names that were counted
-counted-refused : (o : Out (List (List ℕ))) (r : Refusal) → counted o ≡ refused r → o ≡ refused r
-unfolding counted
-counted-refused (refused q) r e = ap refused cc
-counted-refused (done names) r e = let z : _≡_ {A = ℕ} 0 1 = cc in absurd (omega arith)
-
 pub count-refused : (bytes : List ℕ) (r : Refusal) → namesCount bytes ≡ refused r → namesOf house bytes ≡ refused r
 count-refused bytes r e = counted-refused (namesOf house bytes) r e
 

@@ -17,6 +17,7 @@ use Rattle.rules.specs.Lists.{allTrue, every, member}
 use Rattle.rules.specs.Table.{Next, Row, Node, Kind, decode, is, kindOf, kindCode, nodeAt, operands, operandsAs}
 use Rattle.rules.specs.Check.{rule4, sequentialEntry, badEntry, checkSequentials, checkBads, checkNode, checkNodes}
 use Rattle.rules.specs.Limits.{house}
+use Rattle.rules.proofs.Base.{and-both}
 use Rattle.rules.proofs.Sections.{encode-cut}
 use Rattle.tables.specs.NodeAnswers.{rowIs, rowUnknown}
 use Rattle.tables.specs.SectionAnswers.{sectionsIn, wordsIn, Lies}
@@ -165,18 +166,14 @@ next-kind (Kind.Word Op.Sll) e = absurd (false≢true e)
 next-kind (Kind.Word Op.Srl) e = absurd (false≢true e)
 next-kind Next e = refl
 
-both-true : (a b : Bool) → (a && b) ≡ true → (a ≡ true) × (b ≡ true)
-both-true true b e = (refl, e)
-both-true false b e = absurd (false≢true e)
-
 first-below : (bound : ℕ) (nd : Node) (k : Kind) → k ≡ Next → every (λ x. ltb x bound) (operandsAs k nd) ≡ true → nd .a < bound
-first-below bound nd k e h = ltb-true (nd .a) bound (both-true (ltb (nd .a) bound) _ (subst (λ (k : Kind). every (λ x. ltb x bound) (operandsAs k nd) ≡ true) e h) .0)
+first-below bound nd k e h = ltb-true (nd .a) bound (and-both (ltb (nd .a) bound) _ (subst (λ (k : Kind). every (λ x. ltb x bound) (operandsAs k nd) ≡ true) e h) .0)
 
 pub state-inside : (t : List Node) → OperandsBefore t → (s : ℕ) → allTrue (sequentialEntry t s) ≡ true → nodeAt t s .a < length t
 state-inside t h s e =
-    let (inside, more) = both-true (ltb s (length t)) _ e in
+    let (inside, more) = and-both (ltb s (length t)) _ e in
     let l = ltb-true s (length t) inside in
-    let k = next-kind (nodeAt t s .kind) (both-true (is Next (nodeAt t s)) _ more .0) in
+    let k = next-kind (nodeAt t s .kind) (and-both (is Next (nodeAt t s)) _ more .0) in
     let b = first-below s (nodeAt t s) (nodeAt t s .kind) k (h s l) in
     omega arith
 

@@ -227,7 +227,7 @@ unfolding counted
 counted-done (refused r) n e = never (refused r) r n refl e
 counted-done (done names) n e = (names, (refl, same-done (length names) n e))
 
-counted-refused : (o : Out (List (List ℕ))) (r : Refusal) → counted o ≡ refused r → o ≡ refused r
+pub counted-refused : (o : Out (List (List ℕ))) (r : Refusal) → counted o ≡ refused r → o ≡ refused r
 unfolding counted
 counted-refused (refused q) r e = cc
 counted-refused (done names) r e = never (refused r) r (length names) refl (sym e)

@@ -18,6 +18,7 @@ use Rattle.rules.specs.Lists.{allTrue, every}
 use Rattle.rules.specs.Table.{Kind, Const, Read, Write, Word, Ult, Ext, Ite, Eq, And, Or, Not, State, Next, Input, Bad, Node, kinds, kindOf, kindCode, Row, decode, is, fits, nodeAt, operandsAs}
 use Rattle.rules.specs.Check.{knownKind, knownSort, unusedAs, mayServe, sortedAs, rule3, rule5}
 use Rattle.tables.specs.NodeAnswers.{kindIn, usedAs, operandsOf, namedBy, sortedBy, rule5By, rowIs}
+use Rattle.rules.proofs.Base.{and-both, code-of-kind}
 use Rattle.tables.specs.declared.node.Row as row
 
 pub not-known : (code : ℕ) → ((0 < code) × (code < 23) → ⊥) → knownKind code ≡ false
@@ -62,21 +63,8 @@ tested-below (suc n) p h c l = let q = T-both (p n) (allBelow n p) h in go (eqb 
     go true e t f = subst (λ (k : ℕ). T (p k)) (sym (eqb-true c n e)) t
     go false e t f = let d = eqb-false c n e in f (omega arith)
 
-both-true : (a b : Bool) → (a && b) ≡ true → (a ≡ true) × (b ≡ true)
-both-true true b e = (refl, e)
-both-true false b e = absurd (false≢true e)
-
 known-range : (code : ℕ) → knownKind code ≡ true → (0 < code) × (code < 23)
-known-range code h = let q = both-true (ltb 0 code) (leb code 22) h in let l = leb-true code 22 (q .1) in (ltb-true 0 code (q .0), omega arith)
-
--- a known code is the code of the kind that it names
-pub code-kind : (code : ℕ) → knownKind code ≡ true → kindCode (kindOf code) ≡ code
-unfolding allBelow
-code-kind code h = let r = known-range code h in go (eqb code 0) refl (tested-below 23 (λ c. eqb c 0 || eqb (kindCode (kindOf c)) c) tt code (r .1))
-  where
-    go : (z : Bool) → eqb code 0 ≡ z → T (z || eqb (kindCode (kindOf code)) code) → kindCode (kindOf code) ≡ code
-    go true e t = let z = eqb-true code 0 e in let r = known-range code h in absurd (omega arith)
-    go false e t = eqb→eq (kindCode (kindOf code)) code t
+known-range code h = let q = and-both (ltb 0 code) (leb code 22) h in let l = leb-true code 22 (q .1) in (ltb-true 0 code (q .0), omega arith)
 
 -- a code that names no kind reads as Input
 pub unknown-kind : (code : ℕ) → knownKind code ≡ false → kindOf code ≡ Input
@@ -92,7 +80,7 @@ pub is-code : (k : ℕ) → knownKind k ≡ true → eqb 21 k ≡ false → (cod
 is-code k hk hi code = go (knownKind code) refl
   where
     go : (b : Bool) → knownKind code ≡ b → eqb (kindCode (kindOf code)) k ≡ eqb code k
-    go true e = ap (λ (c : ℕ). eqb c k) (code-kind code e)
+    go true e = ap (λ (c : ℕ). eqb c k) (code-of-kind code e)
     go false e =
         ap (λ (x : Kind). eqb (kindCode x) k) (unknown-kind code e) ∙ hi
         ∙ sym (ne-eqb code k (λ q. false≢true (sym e ∙ ap knownKind q ∙ hk)))
@@ -220,7 +208,7 @@ pub rule3-known : (names : ℕ) (r : Row) → knownKind (r .code) ≡ true
     && ((not (eqb (r .code) 13) || knownSort (r .b))
     && (every (λ x. eqb x 0) (drop (usedAs (kindOf (r .code)) (r .b)) (r .a ∷ r .b ∷ r .c ∷ [])) && allTrue (namedBy (r .code) (r .name) names))))
     ≡ rule3 names r
-rule3-known names r h = rw (h, unused-dropped (kindOf (r .code)) (decode r)) (sym (ap by-code (code-kind (r .code) h)))
+rule3-known names r h = rw (h, unused-dropped (kindOf (r .code)) (decode r)) (sym (ap by-code (code-of-kind (r .code) h)))
   where
     by-code : ℕ → Bool
     by-code c =

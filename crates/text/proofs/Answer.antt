@@ -21,7 +21,8 @@ use Rattle.rules.specs.Result.{nodeWords, constWords, markWords, isReplaced, ga
 use Rattle.rules.specs.Lists.{sum}
 use Rattle.rules.specs.Call.{Accepted, wordsOf}
 use Rattle.rules.specs.Text.{decimal, blanked, line, lines, acceptedWord, printed}
-use Rattle.rules.proofs.Flat.{gather-size}
+use Rattle.rules.proofs.Flat.{gather-size, marks-size}
+use Rattle.rules.proofs.Room.{question-length}
 use Rattle.text.specs.declared.printer.Place.{Place}
 use Rattle.text.specs.declared.printer.Place.the-variants.{At}
 use Rattle.text.proofs.Laid.{laid-fits}
@@ -49,33 +50,6 @@ cut-sized (w ∷ ws) (s ∷ ss) rest h =
     ∙ ap (λ l. s ∷ l) (cut-sized ws ss rest (h .1))
 
 -- ---- the sizes of a result's sections
--- the last of what is gathered
-gather-last : (c k : ℕ) (f : ℕ → List ℕ) → gather (suc c) k f ≡ gather c k f ++ f (k + c)
-unfolding gather
-gather-last zero k f = let e : k ≡ k + 0 = omega arith in append-nil (f k) ∙ ap f e
-gather-last (suc c) k f =
-    let e : suc k + c ≡ k + suc c = omega arith in
-    ap (λ l. f k ++ l) (gather-last c (suc k) f) ∙ sym (append-assoc (f k) (gather c (suc k) f) (f (suc k + c))) ∙ ap (λ i. (f k ++ gather c (suc k) f) ++ f i) e
-
-marks-size : (n : ℕ) (f : ℕ → Mark) → length (gather n 0 (λ i. markWords i (f i))) ≡ 2 * sum n (λ i. isReplaced (f i))
-unfolding sum gather
-marks-size zero f = refl
-marks-size (suc n) f =
-    let z : 0 + n ≡ n = omega arith in
-    let last : gather (suc n) 0 (λ i. markWords i (f i)) ≡ gather n 0 (λ i. markWords i (f i)) ++ markWords n (f n)
-    = gather-last n 0 (λ i. markWords i (f i)) ∙ ap (λ i. gather n 0 (λ i. markWords i (f i)) ++ markWords i (f i)) z in
-    ap length last ∙ length-append (gather n 0 (λ i. markWords i (f i))) (markWords n (f n)) ∙ omega (arith, size n (f n), marks-size n f)
-  where
-    size : (k : ℕ) (m : Mark) → length (markWords k m) ≡ 2 * isReplaced m
-    size k fresh = refl
-    size k kept = refl
-    size k (replaced r) = refl
-
-questions-size : (qs : List Question) → length (questionWords qs) ≡ 4 * length qs
-unfolding questionWords
-questions-size [] = refl
-questions-size (q ∷ qs) = omega (arith, questions-size qs)
-
 listed-size : (xs : List ℕ) → length (listed xs) ≡ sectionSize 1 (listed xs)
 listed-size xs = omega arith
 
@@ -98,7 +72,7 @@ result-sized m f =
                 (
                   listed-size (σ .inputs),
                   (
-                    omega (arith, questions-size (σ .asked)),
+                    omega (arith, question-length (σ .asked)),
                     (refl, tt),
                   ),
                 ),

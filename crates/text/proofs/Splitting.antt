@@ -31,6 +31,7 @@ use Rattle.rules.proofs.NameWalk as walk
 use Rattle.rules.proofs.NameWalk.{fault, faultFrom}
 use Rattle.text.specs.declared.split.Judged.{Judged}
 use Rattle.text.specs.declared.split.Names.{Names}
+use Rattle.rules.proofs.Base.{and-both}
 use Rattle.text.specs.Splitting.{cutAfter, restOf, Judges, cutAll, counted, bytesAfter, Lent, bytesIn}
 
 -- ---- one section at a place
@@ -158,16 +159,12 @@ module _ (xs : List ℕ) (i : ℕ) (same : allBytes (drop i xs) ≡ allBytes xs)
   unfolding allBytes
   bytes-all h = ap allBytes (sym (drop-of-length-le xs h)) ∙ same
 
-and-true : (a b : Bool) → (a && b) ≡ true → (a ≡ true) × (b ≡ true)
-and-true true b e = (refl, e)
-and-true false b e = let z : _≡_ {A = Bool} false true = e in let y : _≡_ {A = ℕ} 0 1 = cc in let o : ⊥ = omega arith in absurd o
-
 -- each of them is a byte
 pub byte-at : (xs : List ℕ) (i : ℕ) → allBytes xs ≡ true → i < length xs → getD xs i 0 < 256
 unfolding allBytes
 byte-at [] i e h = let o : ⊥ = omega arith in absurd o
-byte-at (x ∷ xs) zero e h = ltb-true x 256 (and-true (ltb x 256) (allBytes xs) e .0)
-byte-at (x ∷ xs) (suc i) e h = byte-at xs i (and-true (ltb x 256) (allBytes xs) e .1) (omega arith)
+byte-at (x ∷ xs) zero e h = ltb-true x 256 (and-both (ltb x 256) (allBytes xs) e .0)
+byte-at (x ∷ xs) (suc i) e h = byte-at xs i (and-both (ltb x 256) (allBytes xs) e .1) (omega arith)
 
 -- ---- the names bytes, of which i values are written
 pub count-put : (out values : List ℕ) (low high : ℕ) → 2 ≤ length out → take (0 + 2) (set (set out 0 low) 1 high) ≡ low ∷ high ∷ take 0 values
