@@ -242,13 +242,13 @@ as_given('nodes_4096_chain_of_add', [A_WORD, node(ADD, WORD, (0, 1), 0, times=40
 as_given('nodes_4096_chain_of_states', [A_BIT, node(STATE, BIT, (0, 1), 1, times=4094), node(BAD, BIT, 4094)],
          [4095], [(SATISFIABLE, 4094, 0, 0)])
 for what, operands in (('conditions', ((0, 1), 0, 0)), ('left_branches', (0, (0, 1), 0)), ('right_branches', (0, 0, (0, 1)))):
-    as_given('nodes_2048_chain_of_%s' % what, [A_BIT, node(ITE, BIT, *operands, times=2046), node(BAD, BIT, 2046)], [2047],
-             [(SATISFIABLE, 2046, 0, 0)])
-whole('nodes_2048_chain_of_settled_branches',
-      sections([A_BIT, node(CONST, BIT, 1), node(ITE, BIT, 1, 0, 0), node(ITE, BIT, 1, (2, 1), 0, times=2044),
-                node(BAD, BIT, 2046)], bads=[2047]),
-      left([A_BIT, node(CONST, BIT, 1), node(ITE, BIT, 2049, 0, 0, times=2045), node(BAD, BIT, 0)],
-           replaced=[(1, 2049), Group(2045, (2, 1), 0)], bads=[2047], questions=[(SATISFIABLE, 0, 0, 0)]), A_NAME)
+    as_given('nodes_4096_chain_of_%s' % what, [A_BIT, node(ITE, BIT, *operands, times=4094), node(BAD, BIT, 4094)], [4095],
+             [(SATISFIABLE, 4094, 0, 0)])
+whole('nodes_4096_chain_of_settled_branches',
+      sections([A_BIT, node(CONST, BIT, 1), node(ITE, BIT, 1, 0, 0), node(ITE, BIT, 1, (2, 1), 0, times=4092),
+                node(BAD, BIT, 4094)], bads=[4095]),
+      left([A_BIT, node(CONST, BIT, 1), node(ITE, BIT, N + 1, 0, 0, times=4093), node(BAD, BIT, 0)],
+           replaced=[(1, N + 1), Group(4093, (2, 1), 0)], bads=[4095], questions=[(SATISFIABLE, 0, 0, 0)]), A_NAME)
 as_given('nodes_4096_wide', [A_BIT, node(NOT, BIT, 0, times=2047), node(BAD, BIT, (0, 1), times=2048)],
          [Group(1024, (2048, 1))], [Group(2048, SATISFIABLE, (0, 1), 0, 0)], [Group(1024, (3072, 1))])
 whole('nodes_4096_all_fold',

@@ -3,7 +3,7 @@
 use crate::ffi;
 use crate::refusal::Refusal;
 
-/// The stack given for each node of a table, in bytes. A chain was measured to take 880 a node, of Ites 1,888 (examples/stack.rs).
+/// The stack given for each node of a table, in bytes. A chain was measured to take 864 a node, of settled Ites 1,200 (examples/stack.rs).
 pub const STACK_PER_NODE: usize = 2560;
 
 /// The stack given besides, in bytes.
