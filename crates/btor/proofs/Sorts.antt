@@ -34,7 +34,7 @@ of-each P h Input5Byte = h .1 .1 .1 .1 .1 .1 .1 .0
 of-each P h Input6Byte = h .1 .1 .1 .1 .1 .1 .1 .1 .0
 of-each P h Input7Byte = h .1 .1 .1 .1 .1 .1 .1 .1 .1 .0
 
-both-hold : (a b : Bool) → T (a && b) → T a × T b
+pub both-hold : (a b : Bool) → T (a && b) → T a × T b
 both-hold true b h = (tt, h)
 both-hold false b h = absurd h
 

@@ -20,23 +20,23 @@ use Rattle.rules.proofs.Sections.{bind-done, rows-length, row-of}
 use Rattle.rules.proofs.Names.{name-at}
 
 -- ---- a place in a list, or past it
-at-in : {A : Type 0} (xs : List A) (k : ℕ) (d : A) → k < length xs → at xs k ≡ some (getD xs k d)
+pub at-in : {A : Type 0} (xs : List A) (k : ℕ) (d : A) → k < length xs → at xs k ≡ some (getD xs k d)
 unfolding at
 at-in [] k d h = let o : ⊥ = omega arith in absurd o
 at-in (x ∷ xs) zero d h = refl
 at-in (x ∷ xs) (suc k) d h = at-in xs k d (omega arith)
 
-at-past : {A : Type 0} (xs : List A) (k : ℕ) → length xs ≤ k → at xs k ≡ none
+pub at-past : {A : Type 0} (xs : List A) (k : ℕ) → length xs ≤ k → at xs k ≡ none
 unfolding at
 at-past [] k h = refl
 at-past (x ∷ xs) zero h = let o : ⊥ = omega arith in absurd o
 at-past (x ∷ xs) (suc k) h = at-past xs k (omega arith)
 
-named-in : (names : List (List ℕ)) (k : ℕ) → 0 < k → k ≤ length names → named names k ≡ some (nameOf names k)
+pub named-in : (names : List (List ℕ)) (k : ℕ) → 0 < k → k ≤ length names → named names k ≡ some (nameOf names k)
 named-in names zero p h = let o : ⊥ = omega arith in absurd o
 named-in names (suc k) p h = at-in names k [] (omega arith)
 
-named-past : (names : List (List ℕ)) (k : ℕ) → length names < k → named names k ≡ none
+pub named-past : (names : List (List ℕ)) (k : ℕ) → length names < k → named names k ≡ none
 named-past names zero h = refl
 named-past names (suc k) h = at-past names k (omega arith)
 

@@ -17,8 +17,9 @@ use Rattle.rules.specs.Sections.{Part, cutSection, rowOf, rowsOf}
 use Rattle.rules.specs.Names.{namesOf}
 use Rattle.rules.specs.Label.{at, named, nameOfRow, nameOfNode, orSubstitute, labelOf}
 use Rattle.rules.proofs.Sections.{nothing-at, over-at, short-at, whole-at, Parted, section-done, rows-length, row-of}
+use Rattle.rules.proofs.Label.{at-in, at-past}
 use Rattle.tables.specs.NameAnswers.{placeOf, nodesCut, nodesIn, nameWord, nameWordAmong, nameWordOf}
-use Rattle.tables.proofs.NameLaws.{part, at-inside, at-past, place-by, place-none}
+use Rattle.tables.proofs.NameLaws.{part, place-by, place-none}
 
 -- ---- section 1 alone
 module _ (ws : List ℕ) where
@@ -48,7 +49,7 @@ name-of-row ws p node h l =
     let s : suc (rowWidth * node + 5) ≡ rowWidth * node + 6 = omega arith in
     let i : rowWidth * node + 5 < length c = omega (arith, h .size) in (
       omega (arith, ap length (h .words), length-append c (p .rest), h .size),
-      ap nameWord (at-inside (rowsOf (p .count) c) node d (omega (arith, rows-length (p .count) c)))
+      ap nameWord (at-in (rowsOf (p .count) c) node d (omega (arith, rows-length (p .count) c)))
           ∙ ap (λ (r : Row). r .name) (row-of (p .count) c node d l)
           ∙ getD-drop (rowWidth * node) c 5 0
           ∙ sym (List·getD-append c (p .rest) 0 (rowWidth * node + 5) i)

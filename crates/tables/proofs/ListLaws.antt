@@ -183,12 +183,13 @@ passed-before names rs e k h =
     let l : k < length rs = omega (arith, map-length decode rs) in
     ap (rule4 k) (List·getD-map decode rs k rowUnknown) ∙ node-passes names (map decode rs) k (getD rs k rowUnknown) (each-passes names (map decode rs) rs e k l)
 
+-- words that are all 0 read as 0
+pub zeros : (n k : ℕ) → _≡_ {A = ℕ} (getD (replicate n 0) k 0) 0
+zeros zero k = refl
+zeros (suc n) zero = refl
+zeros (suc n) (suc k) = zeros n k
+
 -- at first no state was seen, and every mark is 0
 pub unmarked : (t : List Node) (ss : List ℕ) (n : ℕ) → Marks t ss 0 (replicate n 0)
 unfolding seenBy
-unmarked t ss n x = ap (λ (m : ℕ). eqb m 1) (none-marked n x)
-  where
-    none-marked : (n x : ℕ) → _≡_ {A = ℕ} (getD (replicate n 0) x 0) 0
-    none-marked zero x = refl
-    none-marked (suc n) zero = refl
-    none-marked (suc n) (suc x) = none-marked n x
+unmarked t ss n x = ap (λ (m : ℕ). eqb m 1) (zeros n x)

@@ -25,6 +25,7 @@ use Rattle.rules.specs.Limits.{house}
 use Rattle.rules.specs.Sections.{noneLeft}
 use Rattle.rules.specs.Names.{cutNames, namesOf, nameOf, lengthPlace, nameStart, nameSize, sizedNames, startsWith, memoryDump, dump}
 use Rattle.rules.specs.Label.{at, named}
+use Rattle.rules.proofs.Label.{named-in, named-past}
 use Rattle.rules.proofs.Sections.{never, same-done}
 use Rattle.rules.proofs.Names.{name-over, name-short, name-whole, name-missing, names-over, names-within, names-done, name-at}
 use Rattle.tables.specs.NameAnswers.{counted, namesCount, readAt, placeIf, placeAmong, placeOf, dumpAmong, isDump, dumpMark}
@@ -244,27 +245,6 @@ place-none bs = go (namesOf house bs)
     go (refused r) = refl
     go (done names) = refl
 
--- what stands at a place of a list, or past its end
-pub at-inside : {A : Type 0} (xs : List A) (k : ℕ) (d : A) → k < length xs → at xs k ≡ some (getD xs k d)
-unfolding at
-at-inside [] k d h = let o : ⊥ = omega arith in absurd o
-at-inside (x ∷ xs) zero d h = refl
-at-inside (x ∷ xs) (suc k) d h = at-inside xs k d (omega arith)
-
-pub at-past : {A : Type 0} (xs : List A) (k : ℕ) → length xs ≤ k → at xs k ≡ none
-unfolding at
-at-past [] k h = refl
-at-past (x ∷ xs) zero h = let o : ⊥ = omega arith in absurd o
-at-past (x ∷ xs) (suc k) h = at-past xs k (omega arith)
-
-named-inside : (names : List (List ℕ)) (k : ℕ) → 0 < k → k ≤ length names → named names k ≡ some (nameOf names k)
-named-inside names zero l h = let o : ⊥ = omega arith in absurd o
-named-inside names (suc k) l h = at-inside names k [] (omega arith)
-
-named-past : (names : List (List ℕ)) (k : ℕ) → length names < k → named names k ≡ none
-named-past names zero h = let o : ⊥ = omega arith in absurd o
-named-past names (suc k) h = at-past names k (omega arith)
-
 module _ (bs : List ℕ) (n : ℕ) (e : namesCount bs ≡ done n) where
   accepted : (names : List (List ℕ)) × ((namesOf house bs ≡ done names) × (length names ≡ n))
   accepted = counted-done (namesOf house bs) n e
@@ -280,7 +260,7 @@ module _ (bs : List ℕ) (n : ℕ) (e : namesCount bs ≡ done n) where
   place-past k h = placed-as k none (named-past (accepted .0) k (omega (arith, accepted .1 .1)))
 
   pub place-within : (k : ℕ) → 0 < k → k ≤ n → placeOf bs k ≡ some (nameStart bs k, nameSize bs k)
-  place-within k l h = placed-as k _ (named-inside (accepted .0) k l (omega (arith, accepted .1 .1)))
+  place-within k l h = placed-as k _ (named-in (accepted .0) k l (omega (arith, accepted .1 .1)))
 
 -- ---- a name of accepted bytes lies within them
 module _ (bs : List ℕ) (at : ℕ) (name more : List ℕ) (e : drop at bs ≡ length name ∷ name ++ more) where
@@ -320,7 +300,7 @@ place-by P bs k unread nameless found = go (namesOf house bs) refl
   where
     within : (names : List (List ℕ)) → namesOf house bs ≡ done names → (k : ℕ) → k ≤ length names → 0 < k
         → (nameStart bs k + nameSize bs k ≤ length bs) × (named names k ≡ some (part bs (nameStart bs k) (nameSize bs k)))
-    within names e k h l = (name-inside bs names e k l h, named-inside names k l h ∙ ap some (name-at house bs names e k l h))
+    within names e k h l = (name-inside bs names e k l h, named-in names k l h ∙ ap some (name-at house bs names e k l h))
 
     among : (names : List (List ℕ)) → namesOf house bs ≡ done names → (z p : Bool) → ltb 0 k ≡ z → ltb (length names) k ≡ p → P (placeIf bs k (named names k))
     among names e false p z l =
@@ -412,11 +392,6 @@ place-after (suc k) bs at = place-after k bs (at + 1 + getD bs at 0)
 
 pub counted-inside : (bs : List ℕ) (n : ℕ) → namesCount bs ≡ done n → (k : ℕ) → 0 < k → k ≤ n → nameStart bs k + nameSize bs k ≤ length bs
 counted-inside bs n e k l h = let (names, (p, q)) = accepted bs n e in name-inside bs names p k l (omega (arith, q))
-
-pub zeros : (n k : ℕ) → _≡_ {A = ℕ} (getD (replicate n 0) k 0) 0
-zeros zero k = refl
-zeros (suc n) zero = refl
-zeros (suc n) (suc k) = zeros n k
 
 -- ---- what the answers say of bytes that are accepted
 module _ (bs : List ℕ) (names : List (List ℕ)) (e : namesOf house bs ≡ done names) where

@@ -18,6 +18,7 @@ use Rattle.rules.specs.Lists.{allTrue, every}
 use Rattle.rules.specs.Table.{Kind, Const, Read, Write, Word, Ult, Ext, Ite, Eq, And, Or, Not, State, Next, Input, Bad, Node, kinds, kindOf, kindCode, Row, decode, is, fits, nodeAt, operandsAs}
 use Rattle.rules.specs.Check.{knownKind, knownSort, unusedAs, mayServe, sortedAs, rule3, rule5}
 use Rattle.tables.specs.NodeAnswers.{kindIn, usedAs, operandsOf, namedBy, sortedBy, rule5By, rowIs}
+use Rattle.btor.proofs.Sorts.{both-hold}
 use Rattle.rules.proofs.Base.{and-both, code-of-kind}
 use Rattle.tables.specs.declared.node.Row as row
 
@@ -49,15 +50,11 @@ allBelow : ℕ → (ℕ → Bool) → Bool
 allBelow zero p = true
 allBelow (suc n) p = p n && allBelow n p
 
-T-both : (a b : Bool) → T (a && b) → T a × T b
-T-both true b h = (tt, h)
-T-both false b h = absurd h
-
 -- what a test finds of every number below n
 tested-below : (n : ℕ) (p : ℕ → Bool) → T (allBelow n p) → (c : ℕ) → c < n → T (p c)
 unfolding allBelow
 tested-below zero p h c l = absurd (omega arith)
-tested-below (suc n) p h c l = let q = T-both (p n) (allBelow n p) h in go (eqb c n) refl (q .0) (λ d. tested-below n p (q .1) c d)
+tested-below (suc n) p h c l = let q = both-hold (p n) (allBelow n p) h in go (eqb c n) refl (q .0) (λ d. tested-below n p (q .1) c d)
   where
     go : (e : Bool) → eqb c n ≡ e → T (p n) → (c < n → T (p c)) → T (p c)
     go true e t f = subst (λ (k : ℕ). T (p k)) (sym (eqb-true c n e)) t

@@ -3,7 +3,8 @@
 use mathlib.Core.Path.{refl, sym, ap, _∙_}
 use borrow.Author.Needs.{needs}
 use Rattle.tables.specs.NameAnswers.{countOf}
-use Rattle.tables.proofs.NameLaws.{marks-refused, zeros}
+use Rattle.tables.proofs.ListLaws.{zeros}
+use Rattle.tables.proofs.NameLaws.{marks-refused}
 use Rattle.tables.proofs.names.mark_memory_dumps.Statement.{statement}
 use Rattle.tables.proofs.names.mark_memory_dumps.Tie as tie
 
