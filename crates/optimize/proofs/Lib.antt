@@ -9,6 +9,7 @@ pub mod Finishes
 pub mod Walks
 pub mod Forms
 pub mod Keeps
+pub mod CounterLaws
 pub mod BufferLaws
 pub mod SetUpLaws
 pub mod WriteLaws

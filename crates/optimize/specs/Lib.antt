@@ -2,6 +2,7 @@ pub mod View
 pub mod Folding
 pub mod Process
 pub mod Laid
+pub mod Counters
 pub mod ResultView
 pub mod Lists
 pub mod Bads

@@ -2,6 +2,7 @@
 mod bads; // bads.rt: which bads are kept
 mod beginning; // beginning.rt: the buffers set up, and the sequentials judged
 mod buffers; // buffers.rt: the rows, constants and marks in the buffers
+mod counters; // counters.rt: the counters of a walk, as visits are lent them
 mod ending; // ending.rt: what is made sure of before the result is written
 mod fold; // fold.rt: what a node folds to
 mod input; // input.rt: a State takes an input

@@ -7,6 +7,12 @@ use crate::buffers::number;
 use crate::buffers::operand;
 use crate::buffers::put_row;
 use crate::buffers::word;
+use crate::counters::is_refused;
+use crate::counters::keep;
+use crate::counters::put_walk;
+use crate::counters::refuse;
+use crate::counters::visited_in;
+use crate::counters::walk_in;
 use crate::fold::Constant;
 use crate::fold::Folded;
 use crate::input::take_input;
@@ -29,6 +35,7 @@ ghost use Rattle.tables.specs.NodeAnswers.{kindIs};
 ghost use Rattle.optimize.specs.View.{constantIs, countOf, wordOf, markOf, waysIn};
 ghost use Rattle.optimize.specs.Process.{choiceIs, formOf, hasReplacement, visitOf, processOf, oneOf, twoOf, threeOf, leftOf, rightOf, bothOf, iteOf, valueOf, stepOf};
 ghost use Rattle.optimize.specs.Laid.{Laid, Visits};
+ghost use Rattle.optimize.specs.Counters.{walkIn, Going, answerIn};
 ghost use Rattle.optimize.specs.declared.visit.Form.{Form};
 
 // What a visit does with a node: it is a constant, an input, a state without init, or has one, two or three operands, the
@@ -90,12 +97,13 @@ fn visit(
     result: &mut [u64],
     scratch: &mut [u64],
     minimise: bool,
-    walk: Walk,
+    counters: &mut [usize; 9],
     node: usize,
-) -> Visited
-    requires { ⌜ Laid (now given) (now dumps) (now inputs) (now replies) minimise (now result) (now scratch) walk ⌝ }
+) -> usize
+    requires { ⌜ Laid (now given) (now dumps) (now inputs) (now replies) minimise (now result) (now scratch) (walkIn (now counters)) ⌝ }
     requires { ⌜ node < countOf (now given) ⌝ }
-    ensures { λ r. ⌜ Visits (now (given .entry)) (now (inputs .entry)) (now (replies .entry)) (now (result .entry)) (now (scratch .entry)) walk r (now (result .exit)) (now (scratch .exit)) (node + 1) (λ f σ. visitOf (now (given .entry)) (waysIn (now (dumps .entry)) minimise (now (replies .entry))) f σ node) ⌝ }
+    requires { ⌜ Going (now counters) ⌝ }
+    ensures { λ r. ⌜ Visits (now (given .entry)) (now (inputs .entry)) (now (replies .entry)) (now (result .entry)) (now (scratch .entry)) (walkIn (now (counters .entry))) (answerIn r (now (counters .exit))) (now (result .exit)) (now (scratch .exit)) (node + 1) (λ f σ. visitOf (now (given .entry)) (waysIn (now (dumps .entry)) minimise (now (replies .entry))) f σ node) ⌝ }
 {
     let mark = scratch[node];
     if mark == 0 {
@@ -107,53 +115,15 @@ fn visit(
             result,
             scratch,
             minimise,
-            walk,
+            counters,
             node,
         );
     }
     if mark == 1 {
-        return Visited::Done(walk, node);
+        return node;
     }
     let n = node_count(given);
-    Visited::Done(walk, number(scratch[n + node]))
-}
-
-// Visits an entry of a list, as `visit` does an operand. A second caller of `process` keeps the two apart when they are compiled: the visit of
-// an operand that was visited before is then short.
-pub(crate) fn visit_entry(
-    given: &[u64],
-    inputs: &[u64],
-    replies: &[u64],
-    dumps: &[u8],
-    result: &mut [u64],
-    scratch: &mut [u64],
-    minimise: bool,
-    walk: Walk,
-    node: usize,
-) -> Visited
-    requires { ⌜ Laid (now given) (now dumps) (now inputs) (now replies) minimise (now result) (now scratch) walk ⌝ }
-    requires { ⌜ node < countOf (now given) ⌝ }
-    ensures { λ r. ⌜ Visits (now (given .entry)) (now (inputs .entry)) (now (replies .entry)) (now (result .entry)) (now (scratch .entry)) walk r (now (result .exit)) (now (scratch .exit)) (node + 1) (λ f σ. visitOf (now (given .entry)) (waysIn (now (dumps .entry)) minimise (now (replies .entry))) f σ node) ⌝ }
-{
-    let mark = scratch[node];
-    if mark == 0 {
-        return process(
-            given,
-            inputs,
-            replies,
-            dumps,
-            result,
-            scratch,
-            minimise,
-            walk,
-            node,
-        );
-    }
-    if mark == 1 {
-        return Visited::Done(walk, node);
-    }
-    let n = node_count(given);
-    Visited::Done(walk, number(scratch[n + node]))
+    number(scratch[n + node])
 }
 
 // Rewrites a node, by its form.
@@ -165,20 +135,45 @@ fn process(
     result: &mut [u64],
     scratch: &mut [u64],
     minimise: bool,
-    walk: Walk,
+    counters: &mut [usize; 9],
     node: usize,
-) -> Visited
-    requires { ⌜ Laid (now given) (now dumps) (now inputs) (now replies) minimise (now result) (now scratch) walk ⌝ }
+) -> usize
+    requires { ⌜ Laid (now given) (now dumps) (now inputs) (now replies) minimise (now result) (now scratch) (walkIn (now counters)) ⌝ }
     requires { ⌜ node < countOf (now given) ⌝ }
     requires { ⌜ markOf (countOf (now given)) (now scratch) node ≡ fresh ⌝ }
-    ensures { λ r. ⌜ Visits (now (given .entry)) (now (inputs .entry)) (now (replies .entry)) (now (result .entry)) (now (scratch .entry)) walk r (now (result .exit)) (now (scratch .exit)) node (λ f σ. processOf (now (given .entry)) (waysIn (now (dumps .entry)) minimise (now (replies .entry))) f σ node) ⌝ }
+    requires { ⌜ Going (now counters) ⌝ }
+    ensures { λ r. ⌜ Visits (now (given .entry)) (now (inputs .entry)) (now (replies .entry)) (now (result .entry)) (now (scratch .entry)) (walkIn (now (counters .entry))) (answerIn r (now (counters .exit))) (now (result .exit)) (now (scratch .exit)) node (λ f σ. processOf (now (given .entry)) (waysIn (now (dumps .entry)) minimise (now (replies .entry))) f σ node) ⌝ }
 {
     let kind = kind_at(given, node);
     let form = form_of(kind, word(given, node, 3));
     match form {
-        Form::Constant => settle_const(given, result, scratch, walk, node),
-        Form::Given => settle(given, result, scratch, walk, node, Folded::Stays),
-        Form::Free => take_input(given, inputs, dumps, result, scratch, walk, node),
+        Form::Constant => keep(
+            settle_const(given, result, scratch, walk_in(counters), node),
+            counters,
+        ),
+        Form::Given => keep(
+            settle(
+                given,
+                result,
+                scratch,
+                walk_in(counters),
+                node,
+                Folded::Stays,
+            ),
+            counters,
+        ),
+        Form::Free => keep(
+            take_input(
+                given,
+                inputs,
+                dumps,
+                result,
+                scratch,
+                walk_in(counters),
+                node,
+            ),
+            counters,
+        ),
         Form::One => process_one(
             given,
             inputs,
@@ -187,7 +182,7 @@ fn process(
             result,
             scratch,
             minimise,
-            walk,
+            counters,
             node,
             kind,
         ),
@@ -199,7 +194,7 @@ fn process(
             result,
             scratch,
             minimise,
-            walk,
+            counters,
             node,
             kind,
         ),
@@ -211,7 +206,7 @@ fn process(
             result,
             scratch,
             minimise,
-            walk,
+            counters,
             node,
         ),
         Form::Choice => process_ite(
@@ -222,7 +217,7 @@ fn process(
             result,
             scratch,
             minimise,
-            walk,
+            counters,
             node,
         ),
         Form::Step => process_next(
@@ -233,7 +228,7 @@ fn process(
             result,
             scratch,
             minimise,
-            walk,
+            counters,
             node,
         ),
     }
@@ -248,17 +243,18 @@ fn process_one(
     result: &mut [u64],
     scratch: &mut [u64],
     minimise: bool,
-    walk: Walk,
+    counters: &mut [usize; 9],
     node: usize,
     kind: NodeKind,
-) -> Visited
-    requires { ⌜ Laid (now given) (now dumps) (now inputs) (now replies) minimise (now result) (now scratch) walk ⌝ }
+) -> usize
+    requires { ⌜ Laid (now given) (now dumps) (now inputs) (now replies) minimise (now result) (now scratch) (walkIn (now counters)) ⌝ }
     requires { ⌜ node < countOf (now given) ⌝ }
     requires { ⌜ markOf (countOf (now given)) (now scratch) node ≡ fresh ⌝ }
     requires { ⌜ wordOf (now given) node 2 < node ⌝ }
-    ensures { λ r. ⌜ Visits (now (given .entry)) (now (inputs .entry)) (now (replies .entry)) (now (result .entry)) (now (scratch .entry)) walk r (now (result .exit)) (now (scratch .exit)) node (λ f σ. oneOf (now (given .entry)) (waysIn (now (dumps .entry)) minimise (now (replies .entry))) f (kindIs kind) σ node) ⌝ }
+    requires { ⌜ Going (now counters) ⌝ }
+    ensures { λ r. ⌜ Visits (now (given .entry)) (now (inputs .entry)) (now (replies .entry)) (now (result .entry)) (now (scratch .entry)) (walkIn (now (counters .entry))) (answerIn r (now (counters .exit))) (now (result .exit)) (now (scratch .exit)) node (λ f σ. oneOf (now (given .entry)) (waysIn (now (dumps .entry)) minimise (now (replies .entry))) f (kindIs kind) σ node) ⌝ }
 {
-    let only = visit(
+    let x = visit(
         given,
         inputs,
         replies,
@@ -266,12 +262,12 @@ fn process_one(
         result,
         scratch,
         minimise,
-        walk,
+        counters,
         operand(given, node, 2),
     );
-    let Visited::Done(after, x) = only else {
-        return only;
-    };
+    if is_refused(counters) {
+        return x;
+    }
     put_row(
         given,
         result,
@@ -280,7 +276,10 @@ fn process_one(
         operand(given, node, 3),
         operand(given, node, 4),
     );
-    after_one(given, result, scratch, after, node, kind, x)
+    keep(
+        after_one(given, result, scratch, walk_in(counters), node, kind, x),
+        counters,
+    )
 }
 
 // A node of two operands: Read, the operators on words, Ult, Eq, And, Or.
@@ -292,20 +291,21 @@ fn process_two(
     result: &mut [u64],
     scratch: &mut [u64],
     minimise: bool,
-    walk: Walk,
+    counters: &mut [usize; 9],
     node: usize,
     kind: NodeKind,
-) -> Visited
-    requires { ⌜ Laid (now given) (now dumps) (now inputs) (now replies) minimise (now result) (now scratch) walk ⌝ }
+) -> usize
+    requires { ⌜ Laid (now given) (now dumps) (now inputs) (now replies) minimise (now result) (now scratch) (walkIn (now counters)) ⌝ }
     requires { ⌜ node < countOf (now given) ⌝ }
     requires { ⌜ markOf (countOf (now given)) (now scratch) node ≡ fresh ⌝ }
     requires { ⌜ wordOf (now given) node 2 < node ⌝ }
     requires { ⌜ wordOf (now given) node 3 < node ⌝ }
     requires { ⌜ kindIs kind ≡ kindOf (wordOf (now given) node 0) ⌝ }
     requires { ⌜ Form.Two ≡ formOf (kindIs kind) (wordOf (now given) node 3) ⌝ }
-    ensures { λ r. ⌜ Visits (now (given .entry)) (now (inputs .entry)) (now (replies .entry)) (now (result .entry)) (now (scratch .entry)) walk r (now (result .exit)) (now (scratch .exit)) node (λ f σ. twoOf (now (given .entry)) (waysIn (now (dumps .entry)) minimise (now (replies .entry))) f (kindIs kind) σ node) ⌝ }
+    requires { ⌜ Going (now counters) ⌝ }
+    ensures { λ r. ⌜ Visits (now (given .entry)) (now (inputs .entry)) (now (replies .entry)) (now (result .entry)) (now (scratch .entry)) (walkIn (now (counters .entry))) (answerIn r (now (counters .exit))) (now (result .exit)) (now (scratch .exit)) node (λ f σ. twoOf (now (given .entry)) (waysIn (now (dumps .entry)) minimise (now (replies .entry))) f (kindIs kind) σ node) ⌝ }
 {
-    let left = visit(
+    let x = visit(
         given,
         inputs,
         replies,
@@ -313,13 +313,13 @@ fn process_two(
         result,
         scratch,
         minimise,
-        walk,
+        counters,
         operand(given, node, 2),
     );
-    let Visited::Done(first, x) = left else {
-        return left;
-    };
-    let right = visit(
+    if is_refused(counters) {
+        return x;
+    }
+    let y = visit(
         given,
         inputs,
         replies,
@@ -327,24 +327,27 @@ fn process_two(
         result,
         scratch,
         minimise,
-        first,
+        counters,
         operand(given, node, 3),
     );
-    let Visited::Done(second, y) = right else {
-        return right;
-    };
+    if is_refused(counters) {
+        return y;
+    }
     put_row(given, result, node, x, y, operand(given, node, 4));
-    after_two(
-        given,
-        replies,
-        result,
-        scratch,
-        minimise,
-        second,
-        node,
-        kind,
-        x,
-        y,
+    keep(
+        after_two(
+            given,
+            replies,
+            result,
+            scratch,
+            minimise,
+            walk_in(counters),
+            node,
+            kind,
+            x,
+            y,
+        ),
+        counters,
     )
 }
 
@@ -357,18 +360,19 @@ fn process_three(
     result: &mut [u64],
     scratch: &mut [u64],
     minimise: bool,
-    walk: Walk,
+    counters: &mut [usize; 9],
     node: usize,
-) -> Visited
-    requires { ⌜ Laid (now given) (now dumps) (now inputs) (now replies) minimise (now result) (now scratch) walk ⌝ }
+) -> usize
+    requires { ⌜ Laid (now given) (now dumps) (now inputs) (now replies) minimise (now result) (now scratch) (walkIn (now counters)) ⌝ }
     requires { ⌜ node < countOf (now given) ⌝ }
     requires { ⌜ markOf (countOf (now given)) (now scratch) node ≡ fresh ⌝ }
     requires { ⌜ wordOf (now given) node 2 < node ⌝ }
     requires { ⌜ wordOf (now given) node 3 < node ⌝ }
     requires { ⌜ wordOf (now given) node 4 < node ⌝ }
-    ensures { λ r. ⌜ Visits (now (given .entry)) (now (inputs .entry)) (now (replies .entry)) (now (result .entry)) (now (scratch .entry)) walk r (now (result .exit)) (now (scratch .exit)) node (λ f σ. threeOf (now (given .entry)) (waysIn (now (dumps .entry)) minimise (now (replies .entry))) f σ node) ⌝ }
+    requires { ⌜ Going (now counters) ⌝ }
+    ensures { λ r. ⌜ Visits (now (given .entry)) (now (inputs .entry)) (now (replies .entry)) (now (result .entry)) (now (scratch .entry)) (walkIn (now (counters .entry))) (answerIn r (now (counters .exit))) (now (result .exit)) (now (scratch .exit)) node (λ f σ. threeOf (now (given .entry)) (waysIn (now (dumps .entry)) minimise (now (replies .entry))) f σ node) ⌝ }
 {
-    let left = visit(
+    let x = visit(
         given,
         inputs,
         replies,
@@ -376,13 +380,13 @@ fn process_three(
         result,
         scratch,
         minimise,
-        walk,
+        counters,
         operand(given, node, 2),
     );
-    let Visited::Done(first, x) = left else {
-        return left;
-    };
-    let right = visit(
+    if is_refused(counters) {
+        return x;
+    }
+    let y = visit(
         given,
         inputs,
         replies,
@@ -390,13 +394,13 @@ fn process_three(
         result,
         scratch,
         minimise,
-        first,
+        counters,
         operand(given, node, 3),
     );
-    let Visited::Done(second, y) = right else {
-        return right;
-    };
-    let last = visit(
+    if is_refused(counters) {
+        return y;
+    }
+    let z = visit(
         given,
         inputs,
         replies,
@@ -404,14 +408,24 @@ fn process_three(
         result,
         scratch,
         minimise,
-        second,
+        counters,
         operand(given, node, 4),
     );
-    let Visited::Done(third, z) = last else {
-        return last;
-    };
+    if is_refused(counters) {
+        return z;
+    }
     put_row(given, result, node, x, y, z);
-    settle(given, result, scratch, third, node, Folded::Stays)
+    keep(
+        settle(
+            given,
+            result,
+            scratch,
+            walk_in(counters),
+            node,
+            Folded::Stays,
+        ),
+        counters,
+    )
 }
 
 // Which branch of an Ite its condition chooses.
@@ -445,18 +459,19 @@ fn process_ite(
     result: &mut [u64],
     scratch: &mut [u64],
     minimise: bool,
-    walk: Walk,
+    counters: &mut [usize; 9],
     node: usize,
-) -> Visited
-    requires { ⌜ Laid (now given) (now dumps) (now inputs) (now replies) minimise (now result) (now scratch) walk ⌝ }
+) -> usize
+    requires { ⌜ Laid (now given) (now dumps) (now inputs) (now replies) minimise (now result) (now scratch) (walkIn (now counters)) ⌝ }
     requires { ⌜ node < countOf (now given) ⌝ }
     requires { ⌜ markOf (countOf (now given)) (now scratch) node ≡ fresh ⌝ }
     requires { ⌜ wordOf (now given) node 2 < node ⌝ }
     requires { ⌜ wordOf (now given) node 3 < node ⌝ }
     requires { ⌜ wordOf (now given) node 4 < node ⌝ }
-    ensures { λ r. ⌜ Visits (now (given .entry)) (now (inputs .entry)) (now (replies .entry)) (now (result .entry)) (now (scratch .entry)) walk r (now (result .exit)) (now (scratch .exit)) node (λ f σ. iteOf (now (given .entry)) (waysIn (now (dumps .entry)) minimise (now (replies .entry))) f σ node) ⌝ }
+    requires { ⌜ Going (now counters) ⌝ }
+    ensures { λ r. ⌜ Visits (now (given .entry)) (now (inputs .entry)) (now (replies .entry)) (now (result .entry)) (now (scratch .entry)) (walkIn (now (counters .entry))) (answerIn r (now (counters .exit))) (now (result .exit)) (now (scratch .exit)) node (λ f σ. iteOf (now (given .entry)) (waysIn (now (dumps .entry)) minimise (now (replies .entry))) f σ node) ⌝ }
 {
-    let condition = visit(
+    let x = visit(
         given,
         inputs,
         replies,
@@ -464,13 +479,13 @@ fn process_ite(
         result,
         scratch,
         minimise,
-        walk,
+        counters,
         operand(given, node, 2),
     );
-    let Visited::Done(after, x) = condition else {
-        return condition;
-    };
-    let constant = get_constant(given, result, after.made, x);
+    if is_refused(counters) {
+        return x;
+    }
+    let constant = get_constant(given, result, counters[0], x);
     match choice_of(constant) {
         Choice::Left => process_left(
             given,
@@ -480,7 +495,7 @@ fn process_ite(
             result,
             scratch,
             minimise,
-            after,
+            counters,
             node,
             x,
         ),
@@ -492,7 +507,7 @@ fn process_ite(
             result,
             scratch,
             minimise,
-            after,
+            counters,
             node,
             x,
         ),
@@ -504,7 +519,7 @@ fn process_ite(
             result,
             scratch,
             minimise,
-            after,
+            counters,
             node,
             x,
         ),
@@ -520,17 +535,18 @@ fn process_left(
     result: &mut [u64],
     scratch: &mut [u64],
     minimise: bool,
-    walk: Walk,
+    counters: &mut [usize; 9],
     node: usize,
     x: usize,
-) -> Visited
-    requires { ⌜ Laid (now given) (now dumps) (now inputs) (now replies) minimise (now result) (now scratch) walk ⌝ }
+) -> usize
+    requires { ⌜ Laid (now given) (now dumps) (now inputs) (now replies) minimise (now result) (now scratch) (walkIn (now counters)) ⌝ }
     requires { ⌜ node < countOf (now given) ⌝ }
     requires { ⌜ markOf (countOf (now given)) (now scratch) node ≡ fresh ⌝ }
     requires { ⌜ wordOf (now given) node 3 < node ⌝ }
-    ensures { λ r. ⌜ Visits (now (given .entry)) (now (inputs .entry)) (now (replies .entry)) (now (result .entry)) (now (scratch .entry)) walk r (now (result .exit)) (now (scratch .exit)) node (λ f σ. leftOf (now (given .entry)) (waysIn (now (dumps .entry)) minimise (now (replies .entry))) f x σ node) ⌝ }
+    requires { ⌜ Going (now counters) ⌝ }
+    ensures { λ r. ⌜ Visits (now (given .entry)) (now (inputs .entry)) (now (replies .entry)) (now (result .entry)) (now (scratch .entry)) (walkIn (now (counters .entry))) (answerIn r (now (counters .exit))) (now (result .exit)) (now (scratch .exit)) node (λ f σ. leftOf (now (given .entry)) (waysIn (now (dumps .entry)) minimise (now (replies .entry))) f x σ node) ⌝ }
 {
-    let branch = visit(
+    let y = visit(
         given,
         inputs,
         replies,
@@ -538,14 +554,24 @@ fn process_left(
         result,
         scratch,
         minimise,
-        walk,
+        counters,
         operand(given, node, 3),
     );
-    let Visited::Done(after, y) = branch else {
-        return branch;
-    };
+    if is_refused(counters) {
+        return y;
+    }
     put_row(given, result, node, x, y, operand(given, node, 4));
-    settle(given, result, scratch, after, node, Folded::Swap(y))
+    keep(
+        settle(
+            given,
+            result,
+            scratch,
+            walk_in(counters),
+            node,
+            Folded::Swap(y),
+        ),
+        counters,
+    )
 }
 
 // An Ite whose condition `x` is false: its right branch replaces it.
@@ -557,17 +583,18 @@ fn process_right(
     result: &mut [u64],
     scratch: &mut [u64],
     minimise: bool,
-    walk: Walk,
+    counters: &mut [usize; 9],
     node: usize,
     x: usize,
-) -> Visited
-    requires { ⌜ Laid (now given) (now dumps) (now inputs) (now replies) minimise (now result) (now scratch) walk ⌝ }
+) -> usize
+    requires { ⌜ Laid (now given) (now dumps) (now inputs) (now replies) minimise (now result) (now scratch) (walkIn (now counters)) ⌝ }
     requires { ⌜ node < countOf (now given) ⌝ }
     requires { ⌜ markOf (countOf (now given)) (now scratch) node ≡ fresh ⌝ }
     requires { ⌜ wordOf (now given) node 4 < node ⌝ }
-    ensures { λ r. ⌜ Visits (now (given .entry)) (now (inputs .entry)) (now (replies .entry)) (now (result .entry)) (now (scratch .entry)) walk r (now (result .exit)) (now (scratch .exit)) node (λ f σ. rightOf (now (given .entry)) (waysIn (now (dumps .entry)) minimise (now (replies .entry))) f x σ node) ⌝ }
+    requires { ⌜ Going (now counters) ⌝ }
+    ensures { λ r. ⌜ Visits (now (given .entry)) (now (inputs .entry)) (now (replies .entry)) (now (result .entry)) (now (scratch .entry)) (walkIn (now (counters .entry))) (answerIn r (now (counters .exit))) (now (result .exit)) (now (scratch .exit)) node (λ f σ. rightOf (now (given .entry)) (waysIn (now (dumps .entry)) minimise (now (replies .entry))) f x σ node) ⌝ }
 {
-    let branch = visit(
+    let z = visit(
         given,
         inputs,
         replies,
@@ -575,14 +602,24 @@ fn process_right(
         result,
         scratch,
         minimise,
-        walk,
+        counters,
         operand(given, node, 4),
     );
-    let Visited::Done(after, z) = branch else {
-        return branch;
-    };
+    if is_refused(counters) {
+        return z;
+    }
     put_row(given, result, node, x, operand(given, node, 3), z);
-    settle(given, result, scratch, after, node, Folded::Swap(z))
+    keep(
+        settle(
+            given,
+            result,
+            scratch,
+            walk_in(counters),
+            node,
+            Folded::Swap(z),
+        ),
+        counters,
+    )
 }
 
 // An Ite whose condition `x` is open.
@@ -594,18 +631,19 @@ fn process_both(
     result: &mut [u64],
     scratch: &mut [u64],
     minimise: bool,
-    walk: Walk,
+    counters: &mut [usize; 9],
     node: usize,
     x: usize,
-) -> Visited
-    requires { ⌜ Laid (now given) (now dumps) (now inputs) (now replies) minimise (now result) (now scratch) walk ⌝ }
+) -> usize
+    requires { ⌜ Laid (now given) (now dumps) (now inputs) (now replies) minimise (now result) (now scratch) (walkIn (now counters)) ⌝ }
     requires { ⌜ node < countOf (now given) ⌝ }
     requires { ⌜ markOf (countOf (now given)) (now scratch) node ≡ fresh ⌝ }
     requires { ⌜ wordOf (now given) node 3 < node ⌝ }
     requires { ⌜ wordOf (now given) node 4 < node ⌝ }
-    ensures { λ r. ⌜ Visits (now (given .entry)) (now (inputs .entry)) (now (replies .entry)) (now (result .entry)) (now (scratch .entry)) walk r (now (result .exit)) (now (scratch .exit)) node (λ f σ. bothOf (now (given .entry)) (waysIn (now (dumps .entry)) minimise (now (replies .entry))) f x σ node) ⌝ }
+    requires { ⌜ Going (now counters) ⌝ }
+    ensures { λ r. ⌜ Visits (now (given .entry)) (now (inputs .entry)) (now (replies .entry)) (now (result .entry)) (now (scratch .entry)) (walkIn (now (counters .entry))) (answerIn r (now (counters .exit))) (now (result .exit)) (now (scratch .exit)) node (λ f σ. bothOf (now (given .entry)) (waysIn (now (dumps .entry)) minimise (now (replies .entry))) f x σ node) ⌝ }
 {
-    let left = visit(
+    let y = visit(
         given,
         inputs,
         replies,
@@ -613,13 +651,13 @@ fn process_both(
         result,
         scratch,
         minimise,
-        walk,
+        counters,
         operand(given, node, 3),
     );
-    let Visited::Done(first, y) = left else {
-        return left;
-    };
-    let right = visit(
+    if is_refused(counters) {
+        return y;
+    }
+    let z = visit(
         given,
         inputs,
         replies,
@@ -627,24 +665,27 @@ fn process_both(
         result,
         scratch,
         minimise,
-        first,
+        counters,
         operand(given, node, 4),
     );
-    let Visited::Done(second, z) = right else {
-        return right;
-    };
+    if is_refused(counters) {
+        return z;
+    }
     put_row(given, result, node, x, y, z);
-    after_ite(
-        given,
-        replies,
-        result,
-        scratch,
-        minimise,
-        second,
-        node,
-        x,
-        y,
-        z,
+    keep(
+        after_ite(
+            given,
+            replies,
+            result,
+            scratch,
+            minimise,
+            walk_in(counters),
+            node,
+            x,
+            y,
+            z,
+        ),
+        counters,
     )
 }
 
@@ -657,17 +698,18 @@ fn process_next(
     result: &mut [u64],
     scratch: &mut [u64],
     minimise: bool,
-    walk: Walk,
+    counters: &mut [usize; 9],
     node: usize,
-) -> Visited
-    requires { ⌜ Laid (now given) (now dumps) (now inputs) (now replies) minimise (now result) (now scratch) walk ⌝ }
+) -> usize
+    requires { ⌜ Laid (now given) (now dumps) (now inputs) (now replies) minimise (now result) (now scratch) (walkIn (now counters)) ⌝ }
     requires { ⌜ node < countOf (now given) ⌝ }
     requires { ⌜ markOf (countOf (now given)) (now scratch) node ≡ fresh ⌝ }
     requires { ⌜ wordOf (now given) node 2 < node ⌝ }
     requires { ⌜ wordOf (now given) node 3 < node ⌝ }
-    ensures { λ r. ⌜ Visits (now (given .entry)) (now (inputs .entry)) (now (replies .entry)) (now (result .entry)) (now (scratch .entry)) walk r (now (result .exit)) (now (scratch .exit)) node (λ f σ. stepOf (now (given .entry)) (waysIn (now (dumps .entry)) minimise (now (replies .entry))) f σ node) ⌝ }
+    requires { ⌜ Going (now counters) ⌝ }
+    ensures { λ r. ⌜ Visits (now (given .entry)) (now (inputs .entry)) (now (replies .entry)) (now (result .entry)) (now (scratch .entry)) (walkIn (now (counters .entry))) (answerIn r (now (counters .exit))) (now (result .exit)) (now (scratch .exit)) node (λ f σ. stepOf (now (given .entry)) (waysIn (now (dumps .entry)) minimise (now (replies .entry))) f σ node) ⌝ }
 {
-    let state = visit(
+    let x = visit(
         given,
         inputs,
         replies,
@@ -675,14 +717,15 @@ fn process_next(
         result,
         scratch,
         minimise,
-        walk,
+        counters,
         operand(given, node, 2),
     );
-    let Visited::Done(after, _) = state else {
-        return state;
-    };
+    if is_refused(counters) {
+        return x;
+    }
     if is_replaced(given, scratch, operand(given, node, 2)) {
-        return Visited::Refused(Refusal::ReplacedState(node));
+        refuse(Refusal::ReplacedState(node), counters);
+        return node;
     }
     process_value(
         given,
@@ -692,7 +735,7 @@ fn process_next(
         result,
         scratch,
         minimise,
-        after,
+        counters,
         node,
     )
 }
@@ -706,16 +749,17 @@ fn process_value(
     result: &mut [u64],
     scratch: &mut [u64],
     minimise: bool,
-    walk: Walk,
+    counters: &mut [usize; 9],
     node: usize,
-) -> Visited
-    requires { ⌜ Laid (now given) (now dumps) (now inputs) (now replies) minimise (now result) (now scratch) walk ⌝ }
+) -> usize
+    requires { ⌜ Laid (now given) (now dumps) (now inputs) (now replies) minimise (now result) (now scratch) (walkIn (now counters)) ⌝ }
     requires { ⌜ node < countOf (now given) ⌝ }
     requires { ⌜ markOf (countOf (now given)) (now scratch) node ≡ fresh ⌝ }
     requires { ⌜ wordOf (now given) node 3 < node ⌝ }
-    ensures { λ r. ⌜ Visits (now (given .entry)) (now (inputs .entry)) (now (replies .entry)) (now (result .entry)) (now (scratch .entry)) walk r (now (result .exit)) (now (scratch .exit)) node (λ f σ. valueOf (now (given .entry)) (waysIn (now (dumps .entry)) minimise (now (replies .entry))) f σ node) ⌝ }
+    requires { ⌜ Going (now counters) ⌝ }
+    ensures { λ r. ⌜ Visits (now (given .entry)) (now (inputs .entry)) (now (replies .entry)) (now (result .entry)) (now (scratch .entry)) (walkIn (now (counters .entry))) (answerIn r (now (counters .exit))) (now (result .exit)) (now (scratch .exit)) node (λ f σ. valueOf (now (given .entry)) (waysIn (now (dumps .entry)) minimise (now (replies .entry))) f σ node) ⌝ }
 {
-    let value = visit(
+    let y = visit(
         given,
         inputs,
         replies,
@@ -723,12 +767,12 @@ fn process_value(
         result,
         scratch,
         minimise,
-        walk,
+        counters,
         operand(given, node, 3),
     );
-    let Visited::Done(after, y) = value else {
-        return value;
-    };
+    if is_refused(counters) {
+        return y;
+    }
     put_row(
         given,
         result,
@@ -737,5 +781,62 @@ fn process_value(
         y,
         operand(given, node, 4),
     );
-    settle(given, result, scratch, after, node, Folded::Stays)
+    keep(
+        settle(
+            given,
+            result,
+            scratch,
+            walk_in(counters),
+            node,
+            Folded::Stays,
+        ),
+        counters,
+    )
+}
+
+// Visits an entry of a list. A fresh one is processed here, not by way of `visit`: a second caller of `process` keeps the two apart when they
+// are compiled, and the visit of an operand that was visited before is then short.
+pub(crate) fn visit_entry(
+    given: &[u64],
+    inputs: &[u64],
+    replies: &[u64],
+    dumps: &[u8],
+    result: &mut [u64],
+    scratch: &mut [u64],
+    minimise: bool,
+    walk: Walk,
+    node: usize,
+) -> Visited
+    requires { ⌜ Laid (now given) (now dumps) (now inputs) (now replies) minimise (now result) (now scratch) walk ⌝ }
+    requires { ⌜ node < countOf (now given) ⌝ }
+    ensures { λ r. ⌜ Visits (now (given .entry)) (now (inputs .entry)) (now (replies .entry)) (now (result .entry)) (now (scratch .entry)) walk r (now (result .exit)) (now (scratch .exit)) (node + 1) (λ f σ. visitOf (now (given .entry)) (waysIn (now (dumps .entry)) minimise (now (replies .entry))) f σ node) ⌝ }
+{
+    let mut counters = [0usize; 9];
+    put_walk(walk, &mut counters);
+    if scratch[node] == 0 {
+        let first = process(
+            given,
+            inputs,
+            replies,
+            dumps,
+            result,
+            scratch,
+            minimise,
+            &mut counters,
+            node,
+        );
+        return visited_in(first, &counters);
+    }
+    let again = visit(
+        given,
+        inputs,
+        replies,
+        dumps,
+        result,
+        scratch,
+        minimise,
+        &mut counters,
+        node,
+    );
+    visited_in(again, &counters)
 }

@@ -1,81 +1,82 @@
--- `visit_entry`: as `visit`, by the mark word: processed, or what was recorded.
+-- A fresh entry is processed, any other visited, over counters that hold the walk.
 -- Assumes nothing.
-use native.Mathlib.Omega.{arith}
 use borrow.Author.Needs.{needs}
+use native.Mathlib.Omega.{arith}
+use mathlib.Core.Path.{sym, subst}
 use Rattle.optimize.specs.View.{view, waysIn, Meets}
-use Rattle.optimize.specs.Process.{visitOf}
-use Rattle.optimize.proofs.Walks.{deep, mark-0, again-fresh, again-kept, again-replaced}
+use Rattle.optimize.specs.Process.{visitOf, processOf}
+use Rattle.optimize.specs.Laid.{Laid}
+use Rattle.optimize.proofs.Walks.{deep, mark-0, again-fresh}
+use Rattle.optimize.proofs.CounterLaws.{entered}
 use Rattle.optimize.proofs.visit.visit_entry.Statement.{statement}
 use Rattle.optimize.proofs.visit.visit_entry.Tie as tie
 
-mul-mark : tie.Need-mul-mark
-mul-mark c =
-    let start = c .before .before .before .before .before .before in
-    omega (arith, start .pre .0 .asks, start .pre .1)
+put-walk-requires : tie.Need-put-walk-requires
+put-walk-requires c κs = search needs
 
-slice-read-mark : tie.Need-slice-read-mark
-slice-read-mark c =
-    let start = c .before .before .before .before .before .before .before in
-    omega (arith, start .pre .0 .asks, start .pre .1)
+mul-if1 : tie.Need-mul-if1
+mul-if1 c =
+    let start = c .before .before .before .before .before .before .before .before in
+    omega (arith, (start .pre .0) .asks, (start .pre .1))
+
+slice-read-if1 : tie.Need-slice-read-if1
+slice-read-if1 c =
+    let start = c .before .before .before .before .before .before .before .before .before in
+    omega (arith, (start .pre .0) .asks, (start .pre .1))
 
 process-requires : tie.Need-process-requires
 process-requires c κs =
-    let at-if1 = c .before .before in
-    let start = at-if1 .before .before .before .before .before .before .before .before in
-    (start .pre .0, (start .pre .1, mark-0 _ _ _ (start .pre .1) (at-if1 .if1 .taken)))
+    let at-if1 = c .before .before .before in
+    let at-put-walk = at-if1 .before .before in
+    let start = at-put-walk .before .before .before .before .before .before .before .before in
+    ((subst (λ w. Laid (start .args .given .now) (start .args .dumps .now) (start .args .inputs .now) (start .args .replies .now) (start .args .minimise) (start .args .result .now) (start .args .scratch .now) w) (sym (at-put-walk .put-walk .ensures .0)) (start .pre .0)), ((start .pre .1), (mark-0 _ _ _ (start .pre .1) (at-if1 .if1 .taken), (at-put-walk .put-walk .ensures .1))))
+
+visited-in-requires : tie.Need-visited-in-requires
+visited-in-requires c κs = search needs
 
 same-length : tie.Need-same-length
 same-length c =
-    let at-process = c .before .before .before .before in
+    let at-process = c .before .before .before .before .before .before in
     at-process .process .kept .1 .1 .1 .1 .0
 
 same-length-2 : tie.Need-same-length-2
 same-length-2 c =
-    let at-process = c .before .before .before .before in
+    let at-process = c .before .before .before .before .before .before in
     at-process .process .kept .1 .1 .1 .1 .1 .0
 
 returns : tie.Need-returns
 returns c =
-    let at-process = c .before .before .before .before in
-    let at-if1 = at-process .before .before .before in
-    let start = at-if1 .before .before .before .before .before .before .before .before in
-    λ h. deep (λ f. Meets (start .args .given .now) (start .args .inputs .now) (start .args .replies .now) _ _ _ (visitOf (start .args .given .now) (waysIn (start .args .dumps .now) (start .args .minimise) (start .args .replies .now)) f (view h (start .args .given .now) (start .args .inputs .now) (start .args .replies .now) (start .args .result .now) (start .args .scratch .now) (start .args .walk)) (start .args .node))) (start .args .node) (λ f l. again-fresh (start .args .given .now) (start .args .inputs .now) (start .args .replies .now) (start .args .result .now) (start .args .scratch .now) (start .args .walk) (waysIn (start .args .dumps .now) (start .args .minimise) (start .args .replies .now)) f h (start .args .node) (start .pre .1) _ _ _ (at-if1 .if1 .taken) (at-process .process .ensures h f l))
+    let at-process = c .before .before .before .before .before .before in
+    let at-if1 = at-process .before .before .before .before in
+    let at-put-walk = at-if1 .before .before in
+    let start = at-put-walk .before .before .before .before .before .before .before .before in
+    λ h. deep (λ f. Meets (start .args .given .now) (start .args .inputs .now) (start .args .replies .now) _ _ _ (visitOf (start .args .given .now) (waysIn (start .args .dumps .now) (start .args .minimise) (start .args .replies .now)) f (view h (start .args .given .now) (start .args .inputs .now) (start .args .replies .now) (start .args .result .now) (start .args .scratch .now) (start .args .walk)) (start .args .node))) (start .args .node) (λ f l. again-fresh (start .args .given .now) (start .args .inputs .now) (start .args .replies .now) (start .args .result .now) (start .args .scratch .now) (start .args .walk) (waysIn (start .args .dumps .now) (start .args .minimise) (start .args .replies .now)) f h (start .args .node) (start .pre .1) _ _ _ (at-if1 .if1 .taken) (entered (start .args .given .now) (start .args .inputs .now) (start .args .replies .now) (start .args .result .now) (start .args .scratch .now) _ _ _ _ _ _ _ (λ f σ. processOf (start .args .given .now) (waysIn (start .args .dumps .now) (start .args .minimise) (start .args .replies .now)) f σ (start .args .node)) (at-put-walk .put-walk .ensures .0) (c .visited-in .ensures) (at-process .process .ensures) h f l))
+
+visit-requires : tie.Need-visit-requires
+visit-requires c κs =
+    let at-put-walk = c .before .before .before .before .before in
+    let start = at-put-walk .before .before .before .before .before .before .before .before in
+    ((subst (λ w. Laid (start .args .given .now) (start .args .dumps .now) (start .args .inputs .now) (start .args .replies .now) (start .args .minimise) (start .args .result .now) (start .args .scratch .now) w) (sym (at-put-walk .put-walk .ensures .0)) (start .pre .0)), ((start .pre .1), (at-put-walk .put-walk .ensures .1)))
+
+visited-in-requires-2 : tie.Need-visited-in-requires-2
+visited-in-requires-2 c κs = search needs
+
+same-length-3 : tie.Need-same-length-3
+same-length-3 c =
+    let at-visit = c .before .before .before .before .before .before in
+    at-visit .visit .kept .1 .1 .1 .1 .0
+
+same-length-4 : tie.Need-same-length-4
+same-length-4 c =
+    let at-visit = c .before .before .before .before .before .before in
+    at-visit .visit .kept .1 .1 .1 .1 .1 .0
 
 returns-2 : tie.Need-returns-2
 returns-2 c =
-    let start = c .before .before .before .before .before .before .before .before .before in
-    λ h. deep (λ f. Meets (start .args .given .now) (start .args .inputs .now) (start .args .replies .now) _ _ _ (visitOf (start .args .given .now) (waysIn (start .args .dumps .now) (start .args .minimise) (start .args .replies .now)) f (view h (start .args .given .now) (start .args .inputs .now) (start .args .replies .now) (start .args .result .now) (start .args .scratch .now) (start .args .walk)) (start .args .node))) (start .args .node) (λ f l. again-kept (start .args .given .now) (start .args .inputs .now) (start .args .replies .now) (start .args .result .now) (start .args .scratch .now) (start .args .walk) (waysIn (start .args .dumps .now) (start .args .minimise) (start .args .replies .now)) f h (start .args .node) (start .pre .1) (c .if2 .taken))
-
-node-count-requires : tie.Need-node-count-requires
-node-count-requires c κs =
-    let start = c .before .before .before .before .before .before .before .before .before in
-    omega (arith, start .pre .0 .whole)
-
-add-number : tie.Need-add-number
-add-number c =
-    let start = c .before .before .before .before .before .before .before .before .before .before in
-    omega (arith, start .pre .0 .asks, start .pre .0 .small, start .pre .1, c .node-count .ensures)
-
-mul-number : tie.Need-mul-number
-mul-number c =
-    let start = c .before .before .before .before .before .before .before .before .before .before in
-    omega (arith, start .pre .0 .asks, start .pre .0 .small, start .pre .1, c .node-count .ensures)
-
-slice-read-number : tie.Need-slice-read-number
-slice-read-number c =
-    let start = c .before .before .before .before .before .before .before .before .before .before .before in
-    omega (arith, start .pre .0 .asks, start .pre .0 .small, start .pre .1, c .before .node-count .ensures)
-
-number-requires : tie.Need-number-requires
-number-requires c κs = search needs
-
-returns-3 : tie.Need-returns-3
-returns-3 c =
-    let at-node-count = c .before .before in
-    let at-if2 = at-node-count .before in
-    let at-if1 = at-if2 .before in
-    let start = at-if1 .before .before .before .before .before .before .before .before in
-    λ h. deep (λ f. Meets (start .args .given .now) (start .args .inputs .now) (start .args .replies .now) _ _ _ (visitOf (start .args .given .now) (waysIn (start .args .dumps .now) (start .args .minimise) (start .args .replies .now)) f (view h (start .args .given .now) (start .args .inputs .now) (start .args .replies .now) (start .args .result .now) (start .args .scratch .now) (start .args .walk)) (start .args .node))) (start .args .node) (λ f l. again-replaced (start .args .given .now) (start .args .inputs .now) (start .args .replies .now) (start .args .result .now) (start .args .scratch .now) (start .args .walk) (waysIn (start .args .dumps .now) (start .args .minimise) (start .args .replies .now)) f h (start .args .node) (start .pre .1) _ _ (at-node-count .node-count .ensures) (c .number .ensures) (at-if1 .if1 .left) (at-if2 .if2 .left))
+    let at-visit = c .before .before .before .before .before .before in
+    let at-put-walk = at-visit .before .before .before .before .before .before in
+    let start = at-put-walk .before .before .before .before .before .before .before .before in
+    entered (start .args .given .now) (start .args .inputs .now) (start .args .replies .now) (start .args .result .now) (start .args .scratch .now) _ _ _ _ _ _ _ (λ f σ. visitOf (start .args .given .now) (waysIn (start .args .dumps .now) (start .args .minimise) (start .args .replies .now)) f σ (start .args .node)) (at-put-walk .put-walk .ensures .0) (c .visited-in2 .ensures) (at-visit .visit .ensures)
 
 pub visit-entry-spec : {M : Type 1} → statement M
-visit-entry-spec = tie.close (tie.spec mul-mark slice-read-mark process-requires same-length same-length-2 returns returns-2 node-count-requires add-number mul-number slice-read-number number-requires returns-3)
+visit-entry-spec = tie.close (tie.spec put-walk-requires mul-if1 slice-read-if1 process-requires visited-in-requires same-length same-length-2 returns visit-requires visited-in-requires-2 same-length-3 same-length-4 returns-2)

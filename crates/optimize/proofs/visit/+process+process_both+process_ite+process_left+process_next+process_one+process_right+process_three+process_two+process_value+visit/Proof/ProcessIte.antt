@@ -1,7 +1,7 @@
 -- `process_ite`: the condition decides which branches are visited.
 -- Assumes nothing.
 use Prim.Native.Nat.{ℕ}
-use mathlib.Core.Path.{sym, ap, _∙_}
+use mathlib.Core.Path.{ap, sym, _∙_}
 use native.Mathlib.Omega.{arith}
 use borrow.Author.Needs.{needs}
 use Rattle.rules.specs.Visit.{left, right, undecided}
@@ -19,140 +19,173 @@ use Rattle.optimize.proofs.visit.process_right.Reads as process-right
 use Rattle.optimize.proofs.visit.process_ite.Reads as process-ite
 use Rattle.optimize.proofs.visit.+process+process_both+process_ite+process_left+process_next+process_one+process_right+process_three+process_two+process_value+visit.Lts-process_ite as lts
 use Rattle.optimize.proofs.visit.+process+process_both+process_ite+process_left+process_next+process_one+process_right+process_three+process_two+process_value+visit.Proof.Measures.{process-ite-at, visit-below, process-both-below, process-left-below, process-right-below}
+use Rattle.optimize.proofs.counters.is_refused.Reads as is-refused-reads
+use Rattle.optimize.specs.Counters.{walkIn}
+use Rattle.optimize.proofs.CounterLaws.{went, stopped}
 
 module _ (t : ℕ) where
   abbrev claims : lts.Claims
-  claims = (operand-reads.Asked, operand-reads.Learnt, visit-below t, visit.Post, get-constant-reads.Asked, get-constant-reads.Learnt, choice-of-reads.Asked, choice-of-reads.Learnt, process-left-below t, process-left.Post, process-right-below t, process-right.Post, process-both-below t, process-both.Post)
+  claims = (operand-reads.Asked, operand-reads.Learnt, visit-below t, visit.Post, is-refused-reads.Asked, is-refused-reads.Learnt, get-constant-reads.Asked, get-constant-reads.Learnt, choice-of-reads.Asked, choice-of-reads.Learnt, process-left-below t, process-left.Post, process-right-below t, process-right.Post, process-both-below t, process-both.Post)
 
   operand-requires : lts.Need-operand-requires claims (process-ite-at t) process-ite.Post
   operand-requires c κs =
-      let start = c .before .before .before .before .before .before .before .before in
-      omega (arith, start .pre .1 .0 .whole, (start .pre .1 .1 .0))
+      let start = c .before .before .before .before .before .before .before .before .before in
+      omega (arith, (start .pre .1 .0) .whole, (start .pre .1 .1 .0))
 
   visit-requires : lts.Need-visit-requires claims (process-ite-at t) process-ite.Post
   visit-requires c κs =
-      let start = c .before .before .before .before .before .before .before .before .before in
-      (omega (arith, start .pre .0, c .operand .ensures, (start .pre .1 .1 .1 .1 .0)), ((start .pre .1 .0), omega (arith, c .operand .ensures, (start .pre .1 .1 .1 .1 .0), (start .pre .1 .1 .0))))
+      let start = c .before .before .before .before .before .before .before .before .before .before in
+      (omega (arith, start .pre .0, c .operand .ensures, (start .pre .1 .1 .1 .1 .0)), ((start .pre .1 .0), (omega (arith, c .operand .ensures, (start .pre .1 .1 .1 .1 .0), (start .pre .1 .1 .0)), (start .pre .1 .1 .1 .1 .1 .1 .1))))
 
-  enum-known-condition : lts.Need-enum-known-condition claims (process-ite-at t) process-ite.Post
-  enum-known-condition c = search needs
-
-  enum-told : lts.Need-enum-told claims (process-ite-at t) process-ite.Post
-  enum-told c = search needs
+  is-refused-requires : lts.Need-is-refused-requires claims (process-ite-at t) process-ite.Post
+  is-refused-requires c κs = search needs
 
   same-length : lts.Need-same-length claims (process-ite-at t) process-ite.Post
-  same-length c = search needs
+  same-length c =
+      let at-visit = c .before .before .before .before .before .before .before in
+      at-visit .visit .kept .1 .1 .1 .1 .0
 
   same-length-2 : lts.Need-same-length-2 claims (process-ite-at t) process-ite.Post
-  same-length-2 c = search needs
+  same-length-2 c =
+      let at-visit = c .before .before .before .before .before .before .before in
+      at-visit .visit .kept .1 .1 .1 .1 .1 .0
 
   returns : lts.Need-returns claims (process-ite-at t) process-ite.Post
   returns c =
-      let at-visit = c .before .before .before .before .before .before in
+      let at-is-refused = c .before in
+      let at-visit = at-is-refused .before .before .before .before .before .before in
       let at-operand = at-visit .before in
-      let start = at-operand .before .before .before .before .before .before .before .before .before in
-      λ h f l. ite-stop (start .args .given .now) (start .args .inputs .now) (start .args .replies .now) (waysIn (start .args .dumps .now) (start .args .minimise) (start .args .replies .now)) f (start .args .node) (view h (start .args .given .now) (start .args .inputs .now) (start .args .replies .now) (start .args .result .now) (start .args .scratch .now) (start .args .walk)) _ _ _ _ _ _ _ (at-visit .visit .ensures h f (omega (arith, at-operand .operand .ensures, (start .pre .1 .1 .1 .1 .0), l))) (c .enum-told .given .1) (at-operand .operand .ensures)
+      let start = at-operand .before .before .before .before .before .before .before .before .before .before in
+      λ h f l. ite-stop (start .args .given .now) (start .args .inputs .now) (start .args .replies .now) (waysIn (start .args .dumps .now) (start .args .minimise) (start .args .replies .now)) f (start .args .node) (view h (start .args .given .now) (start .args .inputs .now) (start .args .replies .now) (start .args .result .now) (start .args .scratch .now) (walkIn (start .args .counters .now))) _ _ _ _ _ _ _ (at-visit .visit .ensures h f (omega (arith, at-operand .operand .ensures, (start .pre .1 .1 .1 .1 .0), l))) (stopped _ _ _ (at-is-refused .is-refused .ensures) (c .if1 .taken)) (at-operand .operand .ensures)
+
+  element-copy-out-get-constant : lts.Need-element-copy-out-get-constant claims (process-ite-at t) process-ite.Post
+  element-copy-out-get-constant c = search needs
 
   get-constant-requires : lts.Need-get-constant-requires claims (process-ite-at t) process-ite.Post
   get-constant-requires c κs =
-      let at-condition = c .before .before in
-      let at-visit = at-condition .before .before .before .before .before .before in
+      let at-if1 = c .before .before in
+      let at-is-refused = at-if1 .before in
+      let at-visit = at-is-refused .before .before .before .before .before .before in
       let at-operand = at-visit .before in
-      let start = at-operand .before .before .before .before .before .before .before .before .before in
-      let k = (ready-on _ _ _ _ _ _ _ _ _ _ _ _ _ _ _ (ready _ _ _ _ _ _ _ _ _ (start .pre .1 .0) (start .pre .1 .1 .0) (start .pre .1 .1 .1 .0)) (omega (arith, at-operand .operand .ensures, (start .pre .1 .1 .1 .1 .0))) (at-visit .visit .ensures) (at-condition .condition .given .1) (at-visit .visit .kept .1 .1 .1 .1 .0) (at-visit .visit .kept .1 .1 .1 .1 .1 .0)) .laid in ((omega (arith, k .whole), k .small), (k .room, omega (arith, k .few)))
+      let start = at-operand .before .before .before .before .before .before .before .before .before .before in
+      let k = (ready-on _ _ _ _ _ _ _ _ _ _ _ _ _ _ _ (ready _ _ _ _ _ _ _ _ _ (start .pre .1 .0) (start .pre .1 .1 .0) (start .pre .1 .1 .1 .0)) (omega (arith, at-operand .operand .ensures, (start .pre .1 .1 .1 .1 .0))) (at-visit .visit .ensures) (went _ _ _ (at-is-refused .is-refused .ensures) (at-if1 .if1 .left)) (at-visit .visit .kept .1 .1 .1 .1 .0) (at-visit .visit .kept .1 .1 .1 .1 .1 .0)) .laid in ((omega (arith, k .whole), k .small), (k .room, omega (arith, k .few)))
 
   choice-of-requires : lts.Need-choice-of-requires claims (process-ite-at t) process-ite.Post
   choice-of-requires c κs = search needs
 
-  enum-told-2 : lts.Need-enum-told-2 claims (process-ite-at t) process-ite.Post
-  enum-told-2 c = search needs
+  enum-told : lts.Need-enum-told claims (process-ite-at t) process-ite.Post
+  enum-told c = search needs
 
   process-left-requires : lts.Need-process-left-requires claims (process-ite-at t) process-ite.Post
   process-left-requires c κs =
-      let at-condition = c .before .before .before .before .before .before .before .before in
-      let at-visit = c .before .before .before .before .before .before .before .before .before .before .before .before .before .before in
-      let at-operand = c .before .before .before .before .before .before .before .before .before .before .before .before .before .before .before in
-      let start = c .before .before .before .before .before .before .before .before .before .before .before .before .before .before .before .before .before .before .before .before .before .before .before .before in
-      let r = (ready-on _ _ _ _ _ _ _ _ _ _ _ _ _ _ _ (ready _ _ _ _ _ _ _ _ _ (start .pre .1 .0) (start .pre .1 .1 .0) (start .pre .1 .1 .1 .0)) (omega (arith, at-operand .operand .ensures, (start .pre .1 .1 .1 .1 .0))) (at-visit .visit .ensures) (at-condition .condition .given .1) (at-visit .visit .kept .1 .1 .1 .1 .0) (at-visit .visit .kept .1 .1 .1 .1 .1 .0)) in (omega (arith, start .pre .0), (r .laid, ((start .pre .1 .1 .0), (r .fresh, (start .pre .1 .1 .1 .1 .1 .0)))))
+      let at-if1 = c .before .before .before .before .before .before .before .before .before in
+      let at-is-refused = at-if1 .before in
+      let at-visit = at-is-refused .before .before .before .before .before .before in
+      let at-operand = at-visit .before in
+      let start = at-operand .before .before .before .before .before .before .before .before .before .before in
+      let r = (ready-on _ _ _ _ _ _ _ _ _ _ _ _ _ _ _ (ready _ _ _ _ _ _ _ _ _ (start .pre .1 .0) (start .pre .1 .1 .0) (start .pre .1 .1 .1 .0)) (omega (arith, at-operand .operand .ensures, (start .pre .1 .1 .1 .1 .0))) (at-visit .visit .ensures) (went _ _ _ (at-is-refused .is-refused .ensures) (at-if1 .if1 .left)) (at-visit .visit .kept .1 .1 .1 .1 .0) (at-visit .visit .kept .1 .1 .1 .1 .1 .0)) in (omega (arith, start .pre .0), (r .laid, ((start .pre .1 .1 .0), (r .fresh, ((start .pre .1 .1 .1 .1 .1 .0), (sym (at-is-refused .is-refused .ensures) ∙ at-if1 .if1 .left))))))
+
+  enum-told-2 : lts.Need-enum-told-2 claims (process-ite-at t) process-ite.Post
+  enum-told-2 c = search needs
+
+  process-right-requires : lts.Need-process-right-requires claims (process-ite-at t) process-ite.Post
+  process-right-requires c κs =
+      let at-if1 = c .before .before .before .before .before .before .before .before .before in
+      let at-is-refused = at-if1 .before in
+      let at-visit = at-is-refused .before .before .before .before .before .before in
+      let at-operand = at-visit .before in
+      let start = at-operand .before .before .before .before .before .before .before .before .before .before in
+      let r = (ready-on _ _ _ _ _ _ _ _ _ _ _ _ _ _ _ (ready _ _ _ _ _ _ _ _ _ (start .pre .1 .0) (start .pre .1 .1 .0) (start .pre .1 .1 .1 .0)) (omega (arith, at-operand .operand .ensures, (start .pre .1 .1 .1 .1 .0))) (at-visit .visit .ensures) (went _ _ _ (at-is-refused .is-refused .ensures) (at-if1 .if1 .left)) (at-visit .visit .kept .1 .1 .1 .1 .0) (at-visit .visit .kept .1 .1 .1 .1 .1 .0)) in (omega (arith, start .pre .0), (r .laid, ((start .pre .1 .1 .0), (r .fresh, ((start .pre .1 .1 .1 .1 .1 .1 .0), (sym (at-is-refused .is-refused .ensures) ∙ at-if1 .if1 .left))))))
 
   enum-told-3 : lts.Need-enum-told-3 claims (process-ite-at t) process-ite.Post
   enum-told-3 c = search needs
 
-  process-right-requires : lts.Need-process-right-requires claims (process-ite-at t) process-ite.Post
-  process-right-requires c κs =
-      let at-condition = c .before .before .before .before .before .before .before .before in
-      let at-visit = c .before .before .before .before .before .before .before .before .before .before .before .before .before .before in
-      let at-operand = c .before .before .before .before .before .before .before .before .before .before .before .before .before .before .before in
-      let start = c .before .before .before .before .before .before .before .before .before .before .before .before .before .before .before .before .before .before .before .before .before .before .before .before in
-      let r = (ready-on _ _ _ _ _ _ _ _ _ _ _ _ _ _ _ (ready _ _ _ _ _ _ _ _ _ (start .pre .1 .0) (start .pre .1 .1 .0) (start .pre .1 .1 .1 .0)) (omega (arith, at-operand .operand .ensures, (start .pre .1 .1 .1 .1 .0))) (at-visit .visit .ensures) (at-condition .condition .given .1) (at-visit .visit .kept .1 .1 .1 .1 .0) (at-visit .visit .kept .1 .1 .1 .1 .1 .0)) in (omega (arith, start .pre .0), (r .laid, ((start .pre .1 .1 .0), (r .fresh, (start .pre .1 .1 .1 .1 .1 .1)))))
-
-  enum-told-4 : lts.Need-enum-told-4 claims (process-ite-at t) process-ite.Post
-  enum-told-4 c = search needs
-
   process-both-requires : lts.Need-process-both-requires claims (process-ite-at t) process-ite.Post
   process-both-requires c κs =
-      let at-condition = c .before .before .before .before .before .before .before .before in
-      let at-visit = c .before .before .before .before .before .before .before .before .before .before .before .before .before .before in
-      let at-operand = c .before .before .before .before .before .before .before .before .before .before .before .before .before .before .before in
-      let start = c .before .before .before .before .before .before .before .before .before .before .before .before .before .before .before .before .before .before .before .before .before .before .before .before in
-      let r = (ready-on _ _ _ _ _ _ _ _ _ _ _ _ _ _ _ (ready _ _ _ _ _ _ _ _ _ (start .pre .1 .0) (start .pre .1 .1 .0) (start .pre .1 .1 .1 .0)) (omega (arith, at-operand .operand .ensures, (start .pre .1 .1 .1 .1 .0))) (at-visit .visit .ensures) (at-condition .condition .given .1) (at-visit .visit .kept .1 .1 .1 .1 .0) (at-visit .visit .kept .1 .1 .1 .1 .1 .0)) in (omega (arith, start .pre .0), (r .laid, ((start .pre .1 .1 .0), (r .fresh, ((start .pre .1 .1 .1 .1 .1 .0), (start .pre .1 .1 .1 .1 .1 .1))))))
+      let at-if1 = c .before .before .before .before .before .before .before .before .before in
+      let at-is-refused = at-if1 .before in
+      let at-visit = at-is-refused .before .before .before .before .before .before in
+      let at-operand = at-visit .before in
+      let start = at-operand .before .before .before .before .before .before .before .before .before .before in
+      let r = (ready-on _ _ _ _ _ _ _ _ _ _ _ _ _ _ _ (ready _ _ _ _ _ _ _ _ _ (start .pre .1 .0) (start .pre .1 .1 .0) (start .pre .1 .1 .1 .0)) (omega (arith, at-operand .operand .ensures, (start .pre .1 .1 .1 .1 .0))) (at-visit .visit .ensures) (went _ _ _ (at-is-refused .is-refused .ensures) (at-if1 .if1 .left)) (at-visit .visit .kept .1 .1 .1 .1 .0) (at-visit .visit .kept .1 .1 .1 .1 .1 .0)) in (omega (arith, start .pre .0), (r .laid, ((start .pre .1 .1 .0), (r .fresh, ((start .pre .1 .1 .1 .1 .1 .0), ((start .pre .1 .1 .1 .1 .1 .1 .0), (sym (at-is-refused .is-refused .ensures) ∙ at-if1 .if1 .left)))))))
 
   same-length-3 : lts.Need-same-length-3 claims (process-ite-at t) process-ite.Post
-  same-length-3 c = search needs
+  same-length-3 c =
+      let at-process-left = c .before .before .before .before in
+      let at-visit = at-process-left .before .before .before .before .before .before .before .before .before .before .before .before .before .before .before .before .before in
+      at-process-left .process-left .kept .1 .1 .1 .1 .0 ∙ at-visit .visit .kept .1 .1 .1 .1 .0
 
   same-length-4 : lts.Need-same-length-4 claims (process-ite-at t) process-ite.Post
-  same-length-4 c = search needs
+  same-length-4 c =
+      let at-process-left = c .before .before .before .before in
+      let at-visit = at-process-left .before .before .before .before .before .before .before .before .before .before .before .before .before .before .before .before .before in
+      at-process-left .process-left .kept .1 .1 .1 .1 .1 .0 ∙ at-visit .visit .kept .1 .1 .1 .1 .1 .0
 
   returns-2 : lts.Need-returns-2 claims (process-ite-at t) process-ite.Post
   unfolding chosenOf
   returns-2 c =
       let at-process-left = c .before .before .before .before in
-      let at-enum-told2 = c .before .before .before .before .before .before .before in
-      let at-choice-of = c .before .before .before .before .before .before .before .before .before in
-      let at-get-constant = c .before .before .before .before .before .before .before .before .before .before in
-      let at-condition = c .before .before .before .before .before .before .before .before .before .before .before .before .before in
-      let at-visit = c .before .before .before .before .before .before .before .before .before .before .before .before .before .before .before .before .before .before .before in
-      let at-operand = c .before .before .before .before .before .before .before .before .before .before .before .before .before .before .before .before .before .before .before .before in
-      let start = c .before .before .before .before .before .before .before .before .before .before .before .before .before .before .before .before .before .before .before .before .before .before .before .before .before .before .before .before .before in
-      λ h f l. let m = at-visit .visit .ensures h f (omega (arith, at-operand .operand .ensures, (start .pre .1 .1 .1 .1 .0), l)) in ite-at (start .args .given .now) (start .args .inputs .now) (start .args .replies .now) (waysIn (start .args .dumps .now) (start .args .minimise) (start .args .replies .now)) f (start .args .node) (view h (start .args .given .now) (start .args .inputs .now) (start .args .replies .now) (start .args .result .now) (start .args .scratch .now) (start .args .walk)) _ _ _ _ _ _ _ _ _ (at-get-constant .get-constant .result) left (came-done _ _ _ _ _ _ _ m _ _ (at-condition .condition .given .1)) (at-operand .operand .ensures) (at-get-constant .get-constant .ensures) (sym (at-choice-of .choice-of .ensures) ∙ ap choiceIs (at-enum-told2 .enum-told2 .given .1)) (at-process-left .process-left .ensures (m .0) f l)
+      let at-enum-told = at-process-left .before .before .before .before in
+      let at-choice-of = at-enum-told .before .before in
+      let at-get-constant = at-choice-of .before in
+      let at-if1 = at-get-constant .before .before .before in
+      let at-is-refused = at-if1 .before in
+      let at-visit = at-is-refused .before .before .before .before .before .before in
+      let at-operand = at-visit .before in
+      let start = at-operand .before .before .before .before .before .before .before .before .before .before in
+      λ h f l. let m = at-visit .visit .ensures h f (omega (arith, at-operand .operand .ensures, (start .pre .1 .1 .1 .1 .0), l)) in ite-at (start .args .given .now) (start .args .inputs .now) (start .args .replies .now) (waysIn (start .args .dumps .now) (start .args .minimise) (start .args .replies .now)) f (start .args .node) (view h (start .args .given .now) (start .args .inputs .now) (start .args .replies .now) (start .args .result .now) (start .args .scratch .now) (walkIn (start .args .counters .now))) _ _ _ _ _ _ _ _ _ (at-get-constant .get-constant .result) left (came-done _ _ _ _ _ _ _ m _ _ (went _ _ _ (at-is-refused .is-refused .ensures) (at-if1 .if1 .left))) (at-operand .operand .ensures) (at-get-constant .get-constant .ensures) (sym (at-choice-of .choice-of .ensures) ∙ ap choiceIs (at-enum-told .enum-told .given .1)) (at-process-left .process-left .ensures (m .0) f l)
 
   same-length-5 : lts.Need-same-length-5 claims (process-ite-at t) process-ite.Post
-  same-length-5 c = search needs
+  same-length-5 c =
+      let at-process-right = c .before .before .before .before in
+      let at-visit = at-process-right .before .before .before .before .before .before .before .before .before .before .before .before .before .before .before .before .before in
+      at-process-right .process-right .kept .1 .1 .1 .1 .0 ∙ at-visit .visit .kept .1 .1 .1 .1 .0
 
   same-length-6 : lts.Need-same-length-6 claims (process-ite-at t) process-ite.Post
-  same-length-6 c = search needs
+  same-length-6 c =
+      let at-process-right = c .before .before .before .before in
+      let at-visit = at-process-right .before .before .before .before .before .before .before .before .before .before .before .before .before .before .before .before .before in
+      at-process-right .process-right .kept .1 .1 .1 .1 .1 .0 ∙ at-visit .visit .kept .1 .1 .1 .1 .1 .0
 
   returns-3 : lts.Need-returns-3 claims (process-ite-at t) process-ite.Post
   unfolding chosenOf
   returns-3 c =
       let at-process-right = c .before .before .before .before in
-      let at-enum-told3 = c .before .before .before .before .before .before .before in
-      let at-choice-of = c .before .before .before .before .before .before .before .before .before in
-      let at-get-constant = c .before .before .before .before .before .before .before .before .before .before in
-      let at-condition = c .before .before .before .before .before .before .before .before .before .before .before .before .before in
-      let at-visit = c .before .before .before .before .before .before .before .before .before .before .before .before .before .before .before .before .before .before .before in
-      let at-operand = c .before .before .before .before .before .before .before .before .before .before .before .before .before .before .before .before .before .before .before .before in
-      let start = c .before .before .before .before .before .before .before .before .before .before .before .before .before .before .before .before .before .before .before .before .before .before .before .before .before .before .before .before .before in
-      λ h f l. let m = at-visit .visit .ensures h f (omega (arith, at-operand .operand .ensures, (start .pre .1 .1 .1 .1 .0), l)) in ite-at (start .args .given .now) (start .args .inputs .now) (start .args .replies .now) (waysIn (start .args .dumps .now) (start .args .minimise) (start .args .replies .now)) f (start .args .node) (view h (start .args .given .now) (start .args .inputs .now) (start .args .replies .now) (start .args .result .now) (start .args .scratch .now) (start .args .walk)) _ _ _ _ _ _ _ _ _ (at-get-constant .get-constant .result) right (came-done _ _ _ _ _ _ _ m _ _ (at-condition .condition .given .1)) (at-operand .operand .ensures) (at-get-constant .get-constant .ensures) (sym (at-choice-of .choice-of .ensures) ∙ ap choiceIs (at-enum-told3 .enum-told3 .given .1)) (at-process-right .process-right .ensures (m .0) f l)
+      let at-enum-told2 = at-process-right .before .before .before .before in
+      let at-choice-of = at-enum-told2 .before .before in
+      let at-get-constant = at-choice-of .before in
+      let at-if1 = at-get-constant .before .before .before in
+      let at-is-refused = at-if1 .before in
+      let at-visit = at-is-refused .before .before .before .before .before .before in
+      let at-operand = at-visit .before in
+      let start = at-operand .before .before .before .before .before .before .before .before .before .before in
+      λ h f l. let m = at-visit .visit .ensures h f (omega (arith, at-operand .operand .ensures, (start .pre .1 .1 .1 .1 .0), l)) in ite-at (start .args .given .now) (start .args .inputs .now) (start .args .replies .now) (waysIn (start .args .dumps .now) (start .args .minimise) (start .args .replies .now)) f (start .args .node) (view h (start .args .given .now) (start .args .inputs .now) (start .args .replies .now) (start .args .result .now) (start .args .scratch .now) (walkIn (start .args .counters .now))) _ _ _ _ _ _ _ _ _ (at-get-constant .get-constant .result) right (came-done _ _ _ _ _ _ _ m _ _ (went _ _ _ (at-is-refused .is-refused .ensures) (at-if1 .if1 .left))) (at-operand .operand .ensures) (at-get-constant .get-constant .ensures) (sym (at-choice-of .choice-of .ensures) ∙ ap choiceIs (at-enum-told2 .enum-told2 .given .1)) (at-process-right .process-right .ensures (m .0) f l)
 
   same-length-7 : lts.Need-same-length-7 claims (process-ite-at t) process-ite.Post
-  same-length-7 c = search needs
+  same-length-7 c =
+      let at-process-both = c .before .before .before .before in
+      let at-visit = at-process-both .before .before .before .before .before .before .before .before .before .before .before .before .before .before .before .before .before in
+      at-process-both .process-both .kept .1 .1 .1 .1 .0 ∙ at-visit .visit .kept .1 .1 .1 .1 .0
 
   same-length-8 : lts.Need-same-length-8 claims (process-ite-at t) process-ite.Post
-  same-length-8 c = search needs
+  same-length-8 c =
+      let at-process-both = c .before .before .before .before in
+      let at-visit = at-process-both .before .before .before .before .before .before .before .before .before .before .before .before .before .before .before .before .before in
+      at-process-both .process-both .kept .1 .1 .1 .1 .1 .0 ∙ at-visit .visit .kept .1 .1 .1 .1 .1 .0
 
   returns-4 : lts.Need-returns-4 claims (process-ite-at t) process-ite.Post
   unfolding chosenOf
   returns-4 c =
       let at-process-both = c .before .before .before .before in
-      let at-enum-told4 = c .before .before .before .before .before .before .before in
-      let at-choice-of = c .before .before .before .before .before .before .before .before .before in
-      let at-get-constant = c .before .before .before .before .before .before .before .before .before .before in
-      let at-condition = c .before .before .before .before .before .before .before .before .before .before .before .before .before in
-      let at-visit = c .before .before .before .before .before .before .before .before .before .before .before .before .before .before .before .before .before .before .before in
-      let at-operand = c .before .before .before .before .before .before .before .before .before .before .before .before .before .before .before .before .before .before .before .before in
-      let start = c .before .before .before .before .before .before .before .before .before .before .before .before .before .before .before .before .before .before .before .before .before .before .before .before .before .before .before .before .before in
-      λ h f l. let m = at-visit .visit .ensures h f (omega (arith, at-operand .operand .ensures, (start .pre .1 .1 .1 .1 .0), l)) in ite-at (start .args .given .now) (start .args .inputs .now) (start .args .replies .now) (waysIn (start .args .dumps .now) (start .args .minimise) (start .args .replies .now)) f (start .args .node) (view h (start .args .given .now) (start .args .inputs .now) (start .args .replies .now) (start .args .result .now) (start .args .scratch .now) (start .args .walk)) _ _ _ _ _ _ _ _ _ (at-get-constant .get-constant .result) undecided (came-done _ _ _ _ _ _ _ m _ _ (at-condition .condition .given .1)) (at-operand .operand .ensures) (at-get-constant .get-constant .ensures) (sym (at-choice-of .choice-of .ensures) ∙ ap choiceIs (at-enum-told4 .enum-told4 .given .1)) (at-process-both .process-both .ensures (m .0) f l)
+      let at-enum-told3 = at-process-both .before .before .before .before in
+      let at-choice-of = at-enum-told3 .before .before in
+      let at-get-constant = at-choice-of .before in
+      let at-if1 = at-get-constant .before .before .before in
+      let at-is-refused = at-if1 .before in
+      let at-visit = at-is-refused .before .before .before .before .before .before in
+      let at-operand = at-visit .before in
+      let start = at-operand .before .before .before .before .before .before .before .before .before .before in
+      λ h f l. let m = at-visit .visit .ensures h f (omega (arith, at-operand .operand .ensures, (start .pre .1 .1 .1 .1 .0), l)) in ite-at (start .args .given .now) (start .args .inputs .now) (start .args .replies .now) (waysIn (start .args .dumps .now) (start .args .minimise) (start .args .replies .now)) f (start .args .node) (view h (start .args .given .now) (start .args .inputs .now) (start .args .replies .now) (start .args .result .now) (start .args .scratch .now) (walkIn (start .args .counters .now))) _ _ _ _ _ _ _ _ _ (at-get-constant .get-constant .result) undecided (came-done _ _ _ _ _ _ _ m _ _ (went _ _ _ (at-is-refused .is-refused .ensures) (at-if1 .if1 .left))) (at-operand .operand .ensures) (at-get-constant .get-constant .ensures) (sym (at-choice-of .choice-of .ensures) ∙ ap choiceIs (at-enum-told3 .enum-told3 .given .1)) (at-process-both .process-both .ensures (m .0) f l)
 
   pub proved : {M : Type 1} → lts.Closed claims (process-ite-at t) process-ite.Post M
-  proved = lts.spec claims (process-ite-at t) process-ite.Post operand-requires visit-requires enum-known-condition enum-told same-length same-length-2 returns get-constant-requires choice-of-requires enum-told-2 process-left-requires enum-told-3 process-right-requires enum-told-4 process-both-requires same-length-3 same-length-4 returns-2 same-length-5 same-length-6 returns-3 same-length-7 same-length-8 returns-4
+  proved = lts.spec claims (process-ite-at t) process-ite.Post operand-requires visit-requires is-refused-requires same-length same-length-2 returns element-copy-out-get-constant get-constant-requires choice-of-requires enum-told process-left-requires enum-told-2 process-right-requires enum-told-3 process-both-requires same-length-3 same-length-4 returns-2 same-length-5 same-length-6 returns-3 same-length-7 same-length-8 returns-4
