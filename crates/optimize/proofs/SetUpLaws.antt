@@ -8,8 +8,8 @@ use native.Mathlib.Nat.{add-zero}
 use native.Mathlib.Omega.{arith}
 use borrow.Author.Tests.{lt-ltb, le-ltb}
 use lib.Dec.{lit<}
-use lib.ListN.{length, getD, take, drop, set, replicate, length-append, length-take, getD-replicate, List·getD-append}
-use lib.Seq.{getD-append-add, getD-append-seam, getD-take, paste, length-paste, sets, sets-eq}
+use lib.ListN.{length, getD, take, drop, set, replicate, length-append, length-take, length-replicate, getD-replicate, List·getD-append}
+use lib.Seq.{getD-append-add, getD-append-seam, getD-take, length-take-le, paste, length-paste, sets, sets-eq}
 use Rattle.rules.specs.Table.{Node, constant, unknown}
 use Rattle.rules.specs.Walk.{Mark, fresh, startRows, start}
 use Rattle.rules.proofs.Base.{inside-or-past}
@@ -59,20 +59,23 @@ module _ (g R : List ℕ) (s : SetUp g R) where
       ∙ sym (ap (λ i. getD (tableOf g ++ (constant 1 0 ∷ constant 1 1 ∷ [])) i unknown) e′ ∙ getD-append-add (tableOf g) (constant 1 0 ∷ constant 1 1 ∷ []) j unknown)))
 
 -- ---- the marks
-marks-start : (n r : ℕ) → n ≤ r → markOf n (replicate r 0) ≡ (λ k. fresh)
+cleared : (r : ℕ) (U : List ℕ) (k : ℕ) → k < r → getD (replicate r 0 ++ U) k 0 ≡ 0
+cleared r U k h = List·getD-append (replicate r 0) U 0 k (omega (arith, length-replicate {A = ℕ} r 0)) ∙ getD-replicate {A = ℕ} r k 0 0 h
+
+marks-start : (n r : ℕ) (U : List ℕ) → n ≤ r → markOf n (replicate r 0 ++ U) ≡ (λ k. fresh)
 unfolding markOf
-marks-start n r h = fun-ext (λ k.
+marks-start n r U h = fun-ext (λ k.
     inside-or-past _ k n
-    (λ l. rw (markOf, lt-ltb k n l, getD-replicate {A = ℕ} r k 0 0 (omega arith)))
+    (λ l. rw (markOf, lt-ltb k n l, cleared r U k (omega arith)))
     (λ l. rw (markOf, le-ltb k n l)))
 
 -- ---- the state
-pub view-start : (g R : List ℕ) (r : ℕ) (inputs replies : List ℕ) → SetUp g R → countOf g ≤ r
-    → view [] g inputs replies R (replicate r 0) untouched ≡ start (tableOf g) inputs replies
+pub view-start : (g R : List ℕ) (r : ℕ) (U : List ℕ) (inputs replies : List ℕ) → SetUp g R → countOf g ≤ r
+    → view [] g inputs replies R (replicate r 0 ++ U) untouched ≡ start (tableOf g) inputs replies
 unfolding view firsts
-view-start g R r inputs replies s h =
+view-start g R r U inputs replies s h =
     ap₂ (λ (rows : ℕ → Node) (mark : ℕ → Mark). record { rows = rows; mark = mark; made = 0; inputs = inputs; replies = replies; asked = []; held = []; looked = 0; passed = 0 })
-    (rows-start g R s) (marks-start (countOf g) r h)
+    (rows-start g R s) (marks-start (countOf g) r U h)
 
 -- ---- the stores
 stored-before : (l : List ℕ) (p : ℕ) (vs : List ℕ) → p + length vs ≤ length l → (i : ℕ) → i < p → getD (sets l p vs) i 0 ≡ getD l i 0
@@ -122,7 +125,10 @@ module _ (g R : List ℕ) (fits : 1 + 6 * countOf g ≤ length g) (room : 6 + 6 
         trueNumber = stored-at copied p vs h 3 (omega arith);
       })
 
-pub set-up-left : (g R Q S T : List ℕ) → Ready g (length R) (length S) → Q ≡ paste R 0 (drop 0 g) (1 + 6 * countOf g) → T ≡ replicate (length S) 0
-    → (inputs replies : List ℕ) → view [] g inputs replies (stores (2 + 6 * countOf g) Q) T untouched ≡ start (tableOf g) inputs replies
-set-up-left g R Q S T r q t inputs replies =
-    rw (q, t) (view-start g (stores (2 + 6 * countOf g) (paste R 0 (drop 0 g) (1 + 6 * countOf g))) (length S) inputs replies (stored g R (r .whole) (omega arith)) (omega arith))
+-- P is the part of scratch that was cleared
+pub set-up-left : (g R Q S P : List ℕ) (k : ℕ) → Ready g (length R) (length S) → Q ≡ paste R 0 (drop 0 g) (1 + 6 * countOf g) → k ≡ countOf g → P ≡ replicate (length (take k S)) 0
+    → (inputs replies : List ℕ) → view [] g inputs replies (stores (2 + 6 * countOf g) Q) (P ++ drop k S) untouched ≡ start (tableOf g) inputs replies
+set-up-left g R Q S P k r q e t inputs replies =
+    let l : length (take k S) ≡ k = length-take-le k S (omega arith) in
+    rw (q, t)
+    (view-start g (stores (2 + 6 * countOf g) (paste R 0 (drop 0 g) (1 + 6 * countOf g))) (length (take k S)) (drop k S) inputs replies (stored g R (r .whole) (omega arith)) (omega arith))

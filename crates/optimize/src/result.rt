@@ -69,7 +69,7 @@ pub(crate) fn set_up(given: &[u64], result: &mut [u64], scratch: &mut [u64])
     result[at + 1] = 0;
     result[at + 2] = 1;
     result[at + 3] = 1;
-    clear(scratch);
+    clear(&mut scratch[0..n]);
 }
 
 // Puts a section at a place: its count, then words of `source` from `start` on. Answers the place after it.

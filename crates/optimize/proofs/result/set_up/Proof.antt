@@ -1,10 +1,15 @@
 -- `set_up` leaves the state at the start of the walk: by SetUpLaws, from what the copy, the four stores and the clearing leave.
 -- Assumes nothing.
 use borrow.Author.Needs.{needs}
+use Prim.Native.Nat.{_-_}
 use native.Mathlib.Omega.{arith}
+use mathlib.Core.Path.{sym}
 use lib.ListN.{length-set}
+use lib.Seq.{length-front}
 use denote.Ref.{now}
+use Rattle.optimize.specs.View.{countOf}
 use Rattle.optimize.proofs.SetUpLaws.{set-up-left}
+use Rattle.optimize.proofs.Entries.{zero-less}
 use Rattle.optimize.proofs.result.set_up.Statement.{statement}
 use Rattle.optimize.proofs.result.set_up.Tie as tie
 
@@ -59,6 +64,17 @@ mul-result-4 c = search needs
 slice-write-result-4 : tie.Need-slice-write-result-4
 slice-write-result-4 c = simp length-set (omega arith)
 
+sub-clear : tie.Need-sub-clear
+sub-clear c = search needs
+
+part-clear-start : tie.Need-part-clear-start
+part-clear-start c = search needs
+
+part-clear-end : tie.Need-part-clear-end
+part-clear-end c =
+    let start = c .before .before .before .before .before .before .before .before in
+    omega (arith, start .pre .scratch)
+
 clear-requires : tie.Need-clear-requires
 clear-requires c κs = search needs
 
@@ -66,13 +82,15 @@ same-length : tie.Need-same-length
 same-length c = search needs
 
 same-length-2 : tie.Need-same-length-2
-same-length-2 c = search needs
+same-length-2 c =
+    let start = c .before .before .before .before .before .before .before .before .before .before .before .before in
+    length-front (now (start .args .scratch)) (c .before .before .clear .last .0) (countOf (now (start .args .given)) - 0) (c .before .before .clear .kept .0)
 
 returns : tie.Need-returns
 returns c =
     let at-copy-words = c .before .before .before .before .before .before in
     let start = at-copy-words .before .before .before .before .before .before in
-    set-up-left (now (start .args .given)) (now (start .args .result)) _ (now (start .args .scratch)) _ (start .pre) (at-copy-words .copy-words .ensures) (c .before .before .clear .ensures)
+    set-up-left (now (start .args .given)) (now (start .args .result)) _ (now (start .args .scratch)) _ _ (start .pre) (at-copy-words .copy-words .ensures) (sym (zero-less _)) (c .before .before .clear .ensures)
 
 pub set-up-spec : {M : Type 1} → statement M
 set-up-spec =
@@ -95,6 +113,9 @@ set-up-spec =
     add-result-3
     mul-result-4
     slice-write-result-4
+    sub-clear
+    part-clear-start
+    part-clear-end
     clear-requires
     same-length
     same-length-2
