@@ -18,7 +18,7 @@ use Rattle.btor.proofs.Words.{shl-far, shr-far, div-quotient, magnitude
 use Rattle.btor.proofs.BitVectors.{number-same, number-of, number-of-fit, number-not, number-extended, number-neg, number-add, number-sub, number-mul, number-udiv, number-urem, number-shl, number-lshr, top-bit, and-at, or-at}
 
 -- a test by cases, with what it showed
-cases : {A : Type 0} (P : A → Type 0) (b : Bool) {x y : A} → (b ≡ true → P x) → (b ≡ false → P y) → P (elim b [ true ↦ x | false ↦ y ])
+pub cases : {A : Type 0} (P : A → Type 0) (b : Bool) {x y : A} → (b ≡ true → P x) → (b ≡ false → P y) → P (elim b [ true ↦ x | false ↦ y ])
 cases P true f g = f refl
 cases P false f g = g refl
 

@@ -15,10 +15,6 @@ use Rattle.rules.specs.Check.{knownKind}
 use Rattle.rules.specs.Table.{Kind, kinds, Const, Read, Write, Word, Ult, Ext, Ite, Eq, And, Or, Not, State, Next, Input, Bad, Node, kindOf, opCode, kindCode, is}
 
 -- ---- tests
-pub cases : {A : Type 0} (P : A → Type 0) (b : Bool) {x y : A} → (b ≡ true → P x) → (b ≡ false → P y) → P (elim b [ true ↦ x | false ↦ y ])
-cases P true f g = f refl
-cases P false f g = g refl
-
 pub cases-cond : {A : Type 0} (P : A → Type 0) (b : Bool) {x y : A} → (b ≡ true → P x) → (b ≡ false → P y) → P (cond b x y)
 cases-cond P true f g = f refl
 cases-cond P false f g = g refl

@@ -14,7 +14,8 @@ use Rattle.rules.specs.Table.{Kind, Const, Write, Node, is}
 use Rattle.rules.specs.Value.{Value, number, num, mem, written, meaning, worth}
 use Rattle.rules.specs.Fold.{Fold, stays, swap, make, shared, constOf, isConst, foldWords, foldTest, foldEq, foldAnd, foldOr, foldNot, foldExt, foldConst}
 use Rattle.rules.specs.Memory.{Found, meetUnsettled, meet, lookAt, find}
-use Rattle.rules.proofs.Base.{cases, cases-cond, no, and-both, is-kind}
+use Rattle.btor.proofs.Agreement.{cases}
+use Rattle.rules.proofs.Base.{cases-cond, no, and-both, is-kind}
 use Rattle.rules.proofs.Words.{and-ones, or-ones, width-bit}
 
 -- what a constant operand says of its value

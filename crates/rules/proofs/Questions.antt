@@ -14,7 +14,8 @@ use Rattle.rules.specs.Walk.{St}
 use Rattle.rules.specs.Fold.{Fold, swap, shared}
 use Rattle.rules.specs.Questions.{ask, askOr, quiet, askBit, askAnd, askIte}
 use Rattle.rules.specs.Visit.{Ways}
-use Rattle.rules.proofs.Base.{cases, cases-cond, If, if-bind, if-map}
+use Rattle.btor.proofs.Agreement.{cases}
+use Rattle.rules.proofs.Base.{cases-cond, If, if-bind, if-map}
 use Rattle.rules.proofs.Standing.{Below, FoldStands, shared-fold}
 use Rattle.rules.proofs.Went.{Fine, At, Later, Went, went-none, went-both, ask-went}
 

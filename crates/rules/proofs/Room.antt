@@ -15,7 +15,8 @@ use Rattle.rules.specs.Visit.{Ways, visitTop}
 use Rattle.rules.specs.Whole.{waysOf, trivial, dropNext, judgeSequentials, Bads, Judgement, stay, drop, visitAll, judgeBad, noted, judgeBads, Folded, bads, lastQuestion, foldBads, fold}
 use Rattle.rules.specs.Result.{nodeWords, constWords, markWords, isReplaced, gather, questionWords, resultWords, size}
 use Rattle.rules.specs.Room.{SpendRule, RoomRule}
-use Rattle.rules.proofs.Base.{cases, If, if-bind, if-map, if-always}
+use Rattle.btor.proofs.Agreement.{cases}
+use Rattle.rules.proofs.Base.{If, if-bind, if-map, if-always}
 use Rattle.rules.proofs.Budget.{unpaid-all}
 use Rattle.rules.proofs.Walked.{folded}
 

@@ -16,7 +16,8 @@ use Rattle.rules.specs.Table.{Write, Node, nodeAt, is}
 use Rattle.rules.specs.Fold.{constOf}
 use Rattle.rules.specs.Memory.{Found, lost, meetUnsettled, meet, lookAt, find, foldFound, passedBy}
 use Rattle.rules.specs.Tally.{writes}
-use Rattle.rules.proofs.Base.{cases, cases-cond, inside-or-past}
+use Rattle.btor.proofs.Agreement.{cases}
+use Rattle.rules.proofs.Base.{cases-cond, inside-or-past}
 use Rattle.rules.proofs.Standing.{Below, Stands, FoldStands}
 
 sum-mono : (f : ℕ → ℕ) (a b : ℕ) → a ≤ b → sum a f ≤ sum b f

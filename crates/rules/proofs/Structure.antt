@@ -26,7 +26,8 @@ use Rattle.rules.specs.Visit.{Ways, Branch, left, right, undecided, bran
 use Rattle.rules.specs.Tally.{writes, ifReplaced}
 use Rattle.rules.specs.Room.{due}
 use Rattle.rules.specs.Laws.{SortFor}
-use Rattle.rules.proofs.Base.{mk, cases, all-map, all-join, If, if-bind, put-same, put-other}
+use Rattle.btor.proofs.Agreement.{cases}
+use Rattle.rules.proofs.Base.{mk, all-map, all-join, If, if-bind, put-same, put-other}
 use Rattle.rules.proofs.Standing.{Below, Ref, Refs, FoldStands, ConstFits, stands-itself, stands-row, stands-const, own-fold, words-fold, test-fold, eq-fold, not-fold, ext-fold, const-fold, and-fold, or-fold}
 use Rattle.rules.proofs.Budget.{unpaid-same, unpaid-put, credit-put, credit-replaced}
 use Rattle.rules.proofs.Search.{Strict, looked-writes, found-fold, find-among, strict-zero, tally-strict}

@@ -22,7 +22,7 @@ use Rattle.rules.specs.Sections.{Sections, cutSix, cut, encode}
 use Rattle.rules.specs.Names.{countedNames, namesOf, nameBytes}
 use Rattle.rules.specs.Call.{Call, impl, judgeMode, judgeCut, outcome}
 use Rattle.rules.specs.Text.{mostNumbers, programRoom, isDigit, allDigits, decimalFrom, numberOf, judgeToken, numbersFrom, numbers, allNameBytes, judgeBytes, namesInNumbers, afterNumbers, decimalOf, decimal}
-use Rattle.rules.proofs.Base.{cases}
+use Rattle.btor.proofs.Agreement.{cases}
 use Rattle.rules.proofs.Sections.{bind-done, never, same-done, through, cut-encode, encode-cutSix}
 use Rattle.rules.proofs.Names.{names-back, countedNames-done}
 use Rattle.rules.proofs.Reader.{digits-snoc, decimal-snoc}

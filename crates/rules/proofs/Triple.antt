@@ -19,7 +19,8 @@ use Rattle.rules.specs.Fold.{Fold, stays, swap, make, shared}
 use Rattle.rules.specs.Questions.{firstReply, most, question, ask, askOr, quiet, askBit, askAnd, askIte}
 use Rattle.rules.specs.Visit.{Ways, settle, finishStay, finish}
 use Rattle.rules.specs.Demand.{Claim, Holds, Same}
-use Rattle.rules.proofs.Base.{cases, cases-cond, no, put-same, put-other, put-all, all-left, all-right, If}
+use Rattle.btor.proofs.Agreement.{cases}
+use Rattle.rules.proofs.Base.{cases-cond, no, put-same, put-other, put-all, all-left, all-right, If}
 use Rattle.rules.proofs.Folds.{FoldOk, RowOk}
 
 pub record Ok (t : List Node) (ways : Ways) (v : ℕ → Value) (σ : St) : Type 0 where

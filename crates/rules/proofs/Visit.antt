@@ -25,7 +25,8 @@ use Rattle.rules.specs.Memory.{Found, find, foldFound, passedBy}
 use Rattle.rules.specs.Questions.{quiet, askBit, askAnd, askIte}
 use Rattle.rules.specs.Visit.{Ways, Branch, left, right, undecided, branch, settle, finish, visit1, visit2, visit3, unary, binary, forward, iteOn, takeInput, notReplaced, process, visitMarked, visit}
 use Rattle.rules.specs.Demand.{Same}
-use Rattle.rules.proofs.Base.{mk, cases, cases-cond, no, all-left, all-right, word-not-write}
+use Rattle.btor.proofs.Agreement.{cases}
+use Rattle.rules.proofs.Base.{mk, cases-cond, no, all-left, all-right, word-not-write}
 use Rattle.rules.proofs.Values.{fits-num}
 use Rattle.rules.proofs.Folds.{ConstOk, FoldOk, RowOk, const-ok, foldWords-ok, foldExt-ok, foldTest-ok, foldEq-ok, foldConst-ok, foldNot-ok, foldAnd-ok, foldOr-ok, FoundValue, FoundOk, find-ok}
 use Rattle.rules.proofs.Triple.{Ok, MarkOk, Inv, Goes, bind, row-step, row-inv, mark-step, mark-inv, const-step, const-inv, settle-ok, askBit-ok, askAnd-ok, askIte-ok, quiet-ok, finish-ok}

@@ -21,7 +21,8 @@ use Rattle.rules.specs.Visit.{Ways, visitTop}
 use Rattle.rules.specs.Whole.{waysOf, trivial, dropNext, judgeSequentials, Judgement, stay, visitAll, byReply, judgeBad, judgeBads, Folded, bads, lastQuestion, foldBads, fold}
 use Rattle.rules.specs.Tally.{ifReplaced}
 use Rattle.rules.specs.Room.{unpaid}
-use Rattle.rules.proofs.Base.{cases, If, if-bind, if-map}
+use Rattle.btor.proofs.Agreement.{cases}
+use Rattle.rules.proofs.Base.{If, if-bind, if-map}
 use Rattle.rules.proofs.Budget.{unpaid-less, credit-put}
 use Rattle.rules.proofs.Legal.{state-ok}
 use Rattle.rules.proofs.Standing.{Stands, stands-itself}

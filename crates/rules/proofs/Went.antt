@@ -16,7 +16,8 @@ use Rattle.rules.specs.Questions.{firstReply, most, question, ask}
 use Rattle.rules.specs.Visit.{Ways}
 use Rattle.rules.specs.Tally.{writes}
 use Rattle.rules.specs.Room.{unpaid}
-use Rattle.rules.proofs.Base.{cases, If}
+use Rattle.btor.proofs.Agreement.{cases}
+use Rattle.rules.proofs.Base.{If}
 use Rattle.rules.proofs.Budget.{credit}
 use Rattle.rules.proofs.Standing.{UpTo, Stands}
 use Rattle.rules.proofs.Shape.{Shape, Books, Marked, books-asked}

@@ -22,7 +22,8 @@ use Rattle.rules.specs.Questions.{ask, question}
 use Rattle.rules.specs.Visit.{Ways, visitTop}
 use Rattle.rules.specs.Whole.{waysOf, trivial, dropNext, judgeSequentials, Bads, Judgement, stay, drop, visitAll, byReply, judgeBad, ifDropped, judgeBads, Folded, bads, lastQuestion, foldBads, fold}
 use Rattle.rules.specs.Demand.{Claim, SameInit}
-use Rattle.rules.proofs.Base.{cases, no, put-all, all-join, If, if-bind, inside-or-past, is-kind}
+use Rattle.btor.proofs.Agreement.{cases}
+use Rattle.rules.proofs.Base.{no, put-all, all-join, If, if-bind, inside-or-past, is-kind}
 use Rattle.rules.proofs.Legal.{legal-as}
 use Rattle.rules.proofs.Values.{word-num}
 use Rattle.rules.proofs.Folds.{ConstOk, isConst-ok, RowOk, const-ok}

@@ -19,7 +19,8 @@ use Rattle.btor.specs.declared.node_type.NodeType.{NodeType}
 use Rattle.btor.proofs.Sorts.{code-width-le}
 use Rattle.rules.specs.Check.{isKnown, knownSort}
 use Rattle.rules.specs.Lists.{All}
-use Rattle.rules.proofs.Base.{cases, cases-cond, no}
+use Rattle.btor.proofs.Agreement.{cases}
+use Rattle.rules.proofs.Base.{cases-cond, no}
 
 mod-word : (x : ℕ) → x % 2 ^ 64 < 2 ^ 64
 mod-word x = mod-lt x (pow-pos 64)
