@@ -3,8 +3,8 @@
 use crate::ffi;
 use crate::refusal::Refusal;
 
-/// The stack given for each node of a table, in bytes. A chain was measured to take 864 a node, of settled Ites 1,200 (examples/stack.rs).
-pub const STACK_PER_NODE: usize = 2560;
+/// The stack given for each node of a table, in bytes. A chain of whatever kind was measured to take 352 a node (examples/stack.rs).
+pub const STACK_PER_NODE: usize = 1024;
 
 /// The stack given besides, in bytes.
 pub const STACK_BASE: usize = 65536;

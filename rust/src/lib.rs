@@ -22,10 +22,11 @@
 //!
 //! # Stack
 //!
-//! The library visits a node by visiting its operands, so each node of a chain takes stack: 864 bytes, an Ite up to 1,200
-//! (measured: `cargo run --release --example stack`). A chain of 4,096 nodes takes 3.4 MiB, of Ites 4.7 MiB, so a thread of 2 MiB is not
-//! enough. Every function of this crate that folds therefore starts a thread of its own with [`stack_for`] bytes: a fold does not
-//! overflow, whatever stack its caller has. [`here`] has the same calls without that thread, for a caller who has seen to the stack.
+//! The library visits a node by visiting its operands, so each node of a chain takes stack: 352 bytes, of whatever kind (measured:
+//! `cargo run --release --example stack`). The longest chain, of 4,096 nodes, takes 1.4 MiB, so a fresh thread of 2 MiB is enough, but what
+//! a caller has left of its own is not known. Every function of this crate that folds therefore starts a thread of its own with
+//! [`stack_for`] bytes: a fold does not overflow, whatever stack its caller has. [`here`] has the same calls without that thread, for a
+//! caller who has seen to the stack.
 //!
 //! # Panics
 //!

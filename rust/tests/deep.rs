@@ -1,6 +1,7 @@
-// Chains of 4,096 nodes, folded from a thread with little stack: the fold has its own.
+// Chains of 4,096 nodes: folded from a thread with little stack, as the fold has its own; and on a thread's own 2 MiB, which was measured to
+// be enough.
 
-use gemtweed::{Mode, Node, NodeId, Sort, Table};
+use gemtweed::{here, Mode, Node, NodeId, Sort, Table};
 
 const BIT: Sort = Sort::Bit;
 
@@ -16,16 +17,33 @@ fn chain(over: fn(NodeId) -> Node) -> Table {
     table
 }
 
+fn on_thread(stack: usize, work: impl FnOnce() + Send + 'static) {
+    let thread = std::thread::Builder::new().stack_size(stack).spawn(work).unwrap();
+    thread.join().unwrap();
+}
+
 fn folds(over: fn(NodeId) -> Node) {
-    let fold = move || {
+    on_thread(64 << 10, move || {
         let table = chain(over);
         for minimise in [false, true] {
             let folded = table.fold(Mode { minimise, ..Mode::default() }).unwrap();
             assert_eq!(folded.initial_bads, [NodeId(4095)]);
         }
-    };
-    let thread = std::thread::Builder::new().stack_size(64 << 10).spawn(fold).unwrap();
-    thread.join().unwrap();
+    });
+    on_thread(2 << 20, move || {
+        let table = chain(over);
+        let mut result = vec![1; table.room()];
+        let mut scratch = vec![1; table.room()];
+        for mode in [0, 1] {
+            let (words, names) = (table.words(), table.names_bytes());
+            // Less than `stack_for` says, and enough.
+            let folded = unsafe {
+                here::optimize_model_impl(mode, &words, &names, &mut result, &mut scratch)
+            };
+            assert!(folded.is_ok());
+            assert!(scratch.iter().all(|word| *word == 0));
+        }
+    });
 }
 
 #[test]
