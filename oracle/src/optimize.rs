@@ -1,23 +1,10 @@
 // The published optimize.rs, unchanged, and beside it what lets a test reach its private items.
 
 include!("published_optimize.rs");
-
-pub fn fold_model<S: SMTSolver>(
-    model: &mut Model,
-    inputs: &mut Vec<u64>,
-    minimize: bool,
-    terminate_on_bad: bool,
-    one_query: bool,
-) {
-    optimize_model_impl::<S>(model, inputs, None, minimize, terminate_on_bad, one_query)
-}
+include!("calls.rs");
 
 pub fn all_ones(sort: &NodeType) -> u64 {
     ones(sort)
-}
-
-pub fn sort_code(sort: &NodeType) -> u64 {
-    super::get_sort(sort)
 }
 
 // What a folder held when it was dropped.
