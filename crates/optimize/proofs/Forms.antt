@@ -14,7 +14,7 @@ use Rattle.rules.specs.Legal.{AllLegal}
 use Rattle.rules.specs.Walk.{St, Mark, fresh, kept, replaced, setRow}
 use Rattle.rules.specs.Fold.{stays, constOf}
 use Rattle.rules.specs.Visit.{Ways, Branch, left, right, undecided, branch, notReplaced, visit1, visit2, visit3, unary, binary, iteOn, takeInput, settle, process, visit}
-use Rattle.optimize.specs.declared.visit.Form.{Form}
+use Rattle.optimize.specs.declared.form.Form.{Form}
 use Rattle.optimize.specs.View.{countOf, wordOf, nodeOf, tableOf, waysIn}
 use Rattle.optimize.specs.Folding.{foldTwo, foldOne, asksBit}
 use Rattle.optimize.specs.Process.{formOf, hasReplacement, afterOne, afterTwo, takeOf, visitOf, processOf, oneOf, twoOf, threeOf, chosenOf, iteOf, valueOf, stepOf, byForm, Before}

@@ -19,7 +19,7 @@ use Rattle.rules.proofs.Went.{Fine, Went, Visited, fee}
 use Rattle.rules.proofs.Structure.{visit-went}
 use Rattle.optimize.specs.declared.walk.Walk.{Walk}
 use Rattle.optimize.specs.declared.walk.Visited as Answer
-use Rattle.optimize.specs.declared.visit.Form.{Form}
+use Rattle.optimize.specs.declared.form.Form.{Form}
 use Rattle.optimize.specs.View.{countOf, wordOf, nodeOf, tableOf, waysIn, rowsOf, markOf, questionOf, view}
 use Rattle.optimize.specs.Folding.{Falls}
 use Rattle.optimize.specs.Process.{visitOf, formOf}

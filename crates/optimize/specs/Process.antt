@@ -18,8 +18,8 @@ use Rattle.tables.specs.Refusals.{refusalOf}
 use Rattle.optimize.specs.declared.walk.Walk.{Walk}
 use Rattle.optimize.specs.declared.smt_solver.Asked.{Asked}
 use Rattle.optimize.specs.declared.smt_solver.Solved.{Solved}
-use Rattle.optimize.specs.declared.visit.Form.{Form}
-use Rattle.optimize.specs.declared.visit.Choice.{Choice}
+use Rattle.optimize.specs.declared.form.Form.{Form}
+use Rattle.optimize.specs.declared.form.Choice.{Choice}
 use Rattle.optimize.specs.View.{countOf, wordOf, nodeOf, tableOf, view, foldIs}
 use Rattle.optimize.specs.Folding.{foldTwo, foldOne, asksBit}
 

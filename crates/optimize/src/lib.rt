@@ -5,6 +5,7 @@ mod buffers; // buffers.rt: the rows, constants and marks in the buffers
 mod counters; // counters.rt: the counters of a walk, as visits are lent them
 mod ending; // ending.rt: what is made sure of before the result is written
 mod fold; // fold.rt: what a node folds to
+mod form; // form.rt: what a visit does with a node, by its kind
 mod input; // input.rt: a State takes an input
 mod last_question; // last_question.rt: the one question under one-query
 mod lists; // lists.rt: lists in scratch, and their visits

@@ -13,8 +13,11 @@ use crate::counters::put_walk;
 use crate::counters::refuse;
 use crate::counters::visited_in;
 use crate::counters::walk_in;
-use crate::fold::Constant;
 use crate::fold::Folded;
+use crate::form::Choice;
+use crate::form::Form;
+use crate::form::choice_of;
+use crate::form::form_of;
 use crate::input::take_input;
 use crate::settle::after_ite;
 use crate::settle::after_one;
@@ -29,56 +32,13 @@ ghost use Prim.Native.Nat.{ℕ, _+_, _*_, _<_, _≤_};
 ghost use mathlib.Core.Path.{_≡_};
 ghost use lib.ListN.{length};
 ghost use Rattle.rules.specs.Table.{kindOf};
-ghost use Rattle.rules.specs.Visit.{branch};
 ghost use Rattle.rules.specs.Walk.{fresh};
 ghost use Rattle.tables.specs.NodeAnswers.{kindIs};
-ghost use Rattle.optimize.specs.View.{constantIs, countOf, wordOf, markOf, waysIn};
-ghost use Rattle.optimize.specs.Process.{choiceIs, formOf, hasReplacement, visitOf, processOf, oneOf, twoOf, threeOf, leftOf, rightOf, bothOf, iteOf, valueOf, stepOf};
+ghost use Rattle.optimize.specs.View.{countOf, wordOf, markOf, waysIn};
+ghost use Rattle.optimize.specs.Process.{formOf, hasReplacement, visitOf, processOf, oneOf, twoOf, threeOf, leftOf, rightOf, bothOf, iteOf, valueOf, stepOf};
 ghost use Rattle.optimize.specs.Laid.{Laid, Visits};
 ghost use Rattle.optimize.specs.Counters.{walkIn, Going, answerIn};
-ghost use Rattle.optimize.specs.declared.visit.Form.{Form};
-
-// What a visit does with a node: it is a constant, an input, a state without init, or has one, two or three operands, the
-// condition and branches of an Ite, or the state and the next value of a Next.
-pub(crate) enum Form {
-    Constant,
-    Given,
-    Free,
-    One,
-    Two,
-    Three,
-    Choice,
-    Step,
-}
-
-fn form_of(kind: NodeKind, b: u64) -> Form
-    ensures { λ r. ⌜ r ≡ formOf (kindIs kind) b ⌝ }
-{
-    match kind {
-        NodeKind::Const => Form::Constant,
-        NodeKind::Read => Form::Two,
-        NodeKind::Write => Form::Three,
-        NodeKind::Add => Form::Two,
-        NodeKind::Sub => Form::Two,
-        NodeKind::Mul => Form::Two,
-        NodeKind::Divu => Form::Two,
-        NodeKind::Div => Form::Two,
-        NodeKind::Rem => Form::Two,
-        NodeKind::Sll => Form::Two,
-        NodeKind::Srl => Form::Two,
-        NodeKind::Ult => Form::Two,
-        NodeKind::Ext => Form::One,
-        NodeKind::Ite => Form::Choice,
-        NodeKind::Eq => Form::Two,
-        NodeKind::And => Form::Two,
-        NodeKind::Or => Form::Two,
-        NodeKind::Not => Form::One,
-        NodeKind::State => { if b == 1 { Form::One } else { Form::Free } }
-        NodeKind::Next => Form::Step,
-        NodeKind::Input => Form::Given,
-        NodeKind::Bad => Form::One,
-    }
-}
+ghost use Rattle.optimize.specs.declared.form.Form.{Form};
 
 // Whether a node has a replacement.
 fn is_replaced(given: &[u64], scratch: &[u64], node: usize) -> bool
@@ -426,28 +386,6 @@ fn process_three(
         ),
         counters,
     )
-}
-
-// Which branch of an Ite its condition chooses.
-pub(crate) enum Choice {
-    Left,
-    Right,
-    Undecided,
-}
-
-fn choice_of(condition: Constant) -> Choice
-    ensures { λ r. ⌜ choiceIs r ≡ branch (constantIs condition) ⌝ }
-{
-    let Constant::Imm(value) = condition else {
-        return Choice::Undecided;
-    };
-    if value == 1 {
-        return Choice::Left;
-    }
-    if value == 0 {
-        return Choice::Right;
-    }
-    Choice::Undecided
 }
 
 // An Ite: its condition first, then only the chosen branch where that is constant.

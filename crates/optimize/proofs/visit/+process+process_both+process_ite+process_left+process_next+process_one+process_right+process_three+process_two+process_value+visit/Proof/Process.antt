@@ -5,14 +5,14 @@ use Prim.Native.Nat.{ℕ}
 use native.Mathlib.Omega.{arith}
 use borrow.Author.Needs.{needs}
 use Rattle.tables.specs.NodeAnswers.{kindIs}
-use Rattle.optimize.specs.declared.visit.Form.{Form}
+use Rattle.optimize.specs.declared.form.Form.{Form}
 use Rattle.optimize.specs.View.{tableOf, view, waysIn}
 use Rattle.optimize.specs.Process.{constOut, takeOf, formOf, byForm}
 use Rattle.optimize.proofs.Forms.{process-is, before-is}
 use Rattle.optimize.proofs.Keeps.{ready, ready-room}
 use Rattle.optimize.proofs.buffers.kind_at.Reads as kind-at-reads
 use Rattle.optimize.proofs.buffers.word.Reads as word-reads
-use Rattle.optimize.proofs.visit.form_of.Reads as form-of-reads
+use Rattle.optimize.proofs.form.form_of.Reads as form-of-reads
 use Rattle.optimize.proofs.settle.settle_const.Reads as settle-const-reads
 use Rattle.optimize.proofs.settle.settle.Reads as settle-reads
 use Rattle.optimize.proofs.input.take_input.Reads as take-input-reads

@@ -12,7 +12,7 @@ use Rattle.optimize.proofs.Keeps.{ready, ready-on}
 use Rattle.optimize.proofs.buffers.operand.Reads as operand-reads
 use Rattle.optimize.proofs.visit.visit.Reads as visit
 use Rattle.optimize.proofs.buffers.get_constant.Reads as get-constant-reads
-use Rattle.optimize.proofs.visit.choice_of.Reads as choice-of-reads
+use Rattle.optimize.proofs.form.choice_of.Reads as choice-of-reads
 use Rattle.optimize.proofs.visit.process_both.Reads as process-both
 use Rattle.optimize.proofs.visit.process_left.Reads as process-left
 use Rattle.optimize.proofs.visit.process_right.Reads as process-right

@@ -5,8 +5,8 @@ use mathlib.Core.Path.{_≡_, refl, ap, sym, _∙_}
 use mathlib.Core.Bool.{cond}
 use borrow.Author.Tests.{eq-eqb, ne-eqb}
 use Rattle.optimize.specs.Process.{formOf}
-use Rattle.optimize.proofs.visit.form_of.Statement.{statement}
-use Rattle.optimize.proofs.visit.form_of.Tie as tie
+use Rattle.optimize.proofs.form.form_of.Statement.{statement}
+use Rattle.optimize.proofs.form.form_of.Tie as tie
 
 enum-told : tie.Need-enum-told
 enum-told c = search needs

@@ -3,8 +3,8 @@
 use borrow.Author.Needs.{needs}
 use mathlib.Core.Path.{sym}
 use Rattle.optimize.proofs.Walks.{branch-none, branch-one, branch-zero, branch-other}
-use Rattle.optimize.proofs.visit.choice_of.Statement.{statement}
-use Rattle.optimize.proofs.visit.choice_of.Tie as tie
+use Rattle.optimize.proofs.form.choice_of.Statement.{statement}
+use Rattle.optimize.proofs.form.choice_of.Tie as tie
 
 enum-known-condition : tie.Need-enum-known-condition
 enum-known-condition c = search needs
