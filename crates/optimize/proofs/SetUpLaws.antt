@@ -2,18 +2,17 @@
 -- By cases: a node's row is the given one, then stand the two shared constants, and no row follows; a cleared mark is fresh.
 -- Assumes nothing.
 use Prim.Native.Nat.{ℕ, zero, suc, _+_, _-_, _*_, _<_, _≤_}
-use mathlib.Core.Path.{_≡_, refl, sym, ap, ap₂, _∙_, fun-ext}
+use mathlib.Core.Path.{_≡_, sym, ap, ap₂, _∙_, fun-ext}
 use mathlib.Core.List.{List, [], _∷_, _++_, append-assoc}
 use native.Mathlib.Nat.{add-zero}
 use native.Mathlib.Omega.{arith}
 use borrow.Author.Tests.{lt-ltb, le-ltb}
-use lib.Dec.{lit<}
-use lib.ListN.{length, getD, take, drop, set, replicate, length-append, length-take, length-replicate, getD-replicate, List·getD-append}
-use lib.Seq.{getD-append-add, getD-append-seam, getD-take, length-take-le, paste, length-paste, sets, sets-eq}
+use lib.ListN.{length, getD, take, drop, set, replicate, length-take, length-replicate, getD-replicate, List·getD-append}
+use lib.Seq.{getD-append-add, getD-take, length-take-le, paste, length-paste, sets, sets-eq}
 use Rattle.rules.specs.Table.{Node, constant, unknown}
 use Rattle.rules.specs.Walk.{Mark, fresh, startRows, start}
 use Rattle.rules.proofs.Base.{inside-or-past}
-use Rattle.optimize.specs.View.{countOf, wordOf, nodeOf, firsts, tableOf, rowsOf, markOf, view}
+use Rattle.optimize.specs.View.{countOf, nodeOf, firsts, tableOf, rowsOf, markOf, view}
 use Rattle.optimize.specs.ResultView.{Ready, untouched}
 use Rattle.optimize.proofs.Views.{firsts-at, node-same, row-below, row-made, row-past}
 use Rattle.optimize.proofs.Steps.{table-length}

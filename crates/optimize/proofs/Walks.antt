@@ -236,10 +236,6 @@ module _ (g inputs replies : List ℕ) (ways : Ways) (f k : ℕ) (σ : St) (r : 
   unfolding view
   step-goes y m = step-go g inputs replies ways f k σ r R S R S a (view h g inputs replies Q T w) x false v e (mark-is ∙ y) m
 
-pub refused-is : (g inputs replies R S : List ℕ) (r : Visited) (k : ℕ) → r ≡ Visited.Refused (Refusal.ReplacedState k) → (h : List Held) → Meets g inputs replies r R S (refuse 9 1 k)
-unfolding outcomeOf
-refused-is g inputs replies R S r k e h = (h, ap (λ z. outcomeOf h g inputs replies z R S) e)
-
 -- ---- branches
 pub branch-none : (c : Constant) → c ≡ Constant.None → branch (constantIs c) ≡ undecided
 branch-none c d = ap (λ z. branch (constantIs z)) d

@@ -1,9 +1,7 @@
 -- A mark word above 1 says that the node has a replacement.
 -- Assumes nothing.
 use borrow.Author.Needs.{needs}
-use mathlib.Core.Path.{_≡_, refl, ap, sym, _∙_}
 use native.Mathlib.Omega.{arith}
-use borrow.Author.Tests.{lt-ltb, le-ltb}
 use Rattle.optimize.proofs.Finishes.{replaced-by}
 use Rattle.optimize.proofs.visit.is_replaced.Statement.{statement}
 use Rattle.optimize.proofs.visit.is_replaced.Tie as tie
