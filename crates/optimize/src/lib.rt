@@ -17,4 +17,4 @@ mod sequentials; // sequentials.rt: which sequentials are kept
 mod settle; // settle.rt: what comes after the visits of a node's operands
 mod smt_solver; // smt_solver.rt: the four questions, and the replies in place of a solver
 mod visit; // visit.rt: visiting a node and rewriting it
-pub mod walk; // walk.rt: what the walk hands on, and what an entry point answers
+pub mod walk; // walk.rt: what a walk counts, and what visits and entry points answer

@@ -1,4 +1,4 @@
-// What the walk hands on from node to node.
+// What a walk counts, and what visits, lists of visits and entry points answer.
 use tables::refusal::Refusal;
 
 // Constants made, inputs and replies taken, questions asked, writes looked at, unsettled writes passed.
