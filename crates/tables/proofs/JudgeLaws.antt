@@ -2,24 +2,22 @@
 -- Assumes nothing.
 use Prim.Native.Nat.{ℕ, zero, suc, _+_, _*_, _<_, _≤_}
 use mathlib.Core.Path.{_≡_, refl, sym, ap, _∙_}
-use mathlib.Core.Bool.{Bool, true, false, _&&_}
+use mathlib.Core.Bool.{Bool, true, false}
 use mathlib.Core.Option.{Option, none, some}
-use mathlib.Core.List.{List, [], _∷_, map}
+use mathlib.Core.List.{List, [], _∷_}
 use native.Mathlib.Omega.{arith}
 use native.Mathlib.Numerals.{add-one}
-use lib.ListN.{length, getD, take, drop, List·getD-map, List·getD-eq-default, drop-of-length-le}
+use lib.ListN.{length, getD, drop, List·getD-map, List·getD-eq-default, drop-of-length-le}
 use lib.Seq.{getD-drop, drop-cons}
-use Rattle.rules.specs.Refusal.{Refusal, unless, firstOf}
+use Rattle.rules.specs.Refusal.{Refusal, firstOf}
 use Rattle.rules.specs.Table.{Row, Node, decode, unknown, nodeAt}
 use Rattle.rules.specs.Check.{rule3, rule4, rule5, checkNode, checkNodes}
-use Rattle.rules.specs.Sections.{rowOf, rowsOf}
+use Rattle.rules.specs.Sections.{rowOf}
 use Rattle.rules.specs.Limits.{house}
 use Rattle.rules.proofs.Sections.{row-at, rows-length}
-use Rattle.tables.specs.NodeAnswers.{rowUnknown, rowIs, rule5By}
-use Rattle.tables.specs.declared.node.Row as node
-use Rattle.tables.proofs.NodeLaws.{rule5-by}
+use Rattle.tables.specs.NodeAnswers.{rowUnknown}
 use Rattle.tables.specs.SectionAnswers.{sectionsIn}
-use Rattle.tables.specs.Judging.{rowsIn, tableIn, IsCut}
+use Rattle.tables.specs.Judging.{rowsIn, tableIn, rowAt, IsChecked, IsCut}
 use Rattle.tables.specs.declared.sections.Sections.{Sections}
 
 -- ---- rows in cut words
@@ -42,6 +40,12 @@ module _ (ws : List ℕ) (s : Sections) (h : IsCut ws s) where
       List·getD-map decode (rowsIn ws s) k rowUnknown
       ∙ ap decode (List·getD-eq-default (rowsIn ws s) rowUnknown (omega (arith, rows-count)))
 
+  -- what rules 3, 4 and 5 say of a row is what they say of the node in the table
+  pub node-checked : (names k : ℕ) → k < s .nodes .count → (r : Row) → r ≡ rowAt ws k → {o : Option Refusal} → IsChecked ws names k r o
+      → o ≡ checkNode names (tableIn ws s) k (getD (rowsIn ws s) k rowUnknown)
+  node-checked names k l r e f =
+      f (tableIn ws s) (λ x g. node-in x (omega arith)) ∙ ap (checkNode names (tableIn ws s) k) (e ∙ sym (row-in k l))
+
   pub words-enough : (k : ℕ) → k < s .nodes .count → 6 * k + 7 ≤ length ws
   words-enough k l = omega (arith, h .inside .nodes .starts, h .inside .nodes .ends, h .inside .nodes .within)
 
@@ -59,16 +63,6 @@ module _ (names : ℕ) (t : List Node) (k : ℕ) (r : Row) where
 
   pub fails-none : rule3 names r ≡ true → rule4 k (decode r) ≡ true → rule5 t (decode r) ≡ true → checkNode names t k r ≡ none
   fails-none h g f = rw (h, g, f)
-
--- rule 5 by the rows of the nodes that a row names
-pub rule5-rows : (t : List Node) (r x y z : node.Row)
-    → decode (rowIs x) ≡ nodeAt t (r .a) → decode (rowIs y) ≡ nodeAt t (r .b) → decode (rowIs z) ≡ nodeAt t (r .c)
-    → rule5By (decode (rowIs r)) (decode (rowIs x)) (decode (rowIs y)) (decode (rowIs z)) ≡ rule5 t (decode (rowIs r))
-rule5-rows t r x y z p q o =
-    ap (λ (n : Node). rule5By (decode (rowIs r)) n (decode (rowIs y)) (decode (rowIs z))) p
-    ∙ ap (λ (n : Node). rule5By (decode (rowIs r)) (nodeAt t (r .a)) n (decode (rowIs z))) q
-    ∙ ap (λ (n : Node). rule5By (decode (rowIs r)) (nodeAt t (r .a)) (nodeAt t (r .b)) n) o
-    ∙ sym (rule5-by t (decode (rowIs r)))
 
 -- the first of a list of one
 pub alone : (o : Option Refusal) → firstOf (none ∷ o ∷ []) ≡ o

@@ -1,5 +1,6 @@
 pub mod SectionLaws
 pub mod NodeLaws
+pub mod FormLaws
 pub mod JudgeLaws
 pub mod ListLaws
 pub mod NameLaws

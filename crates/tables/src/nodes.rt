@@ -2,6 +2,19 @@
 use crate::node::Row;
 use crate::refusal::Refusal;
 use crate::sections::Sections;
+use crate::several::judge_comparison;
+use crate::several::judge_ite;
+use crate::several::judge_logic;
+use crate::several::judge_next;
+use crate::several::judge_read;
+use crate::several::judge_word;
+use crate::several::judge_write;
+use crate::single::judge_bad;
+use crate::single::judge_const;
+use crate::single::judge_ext;
+use crate::single::judge_input;
+use crate::single::judge_not;
+use crate::single::judge_state;
 ghost use mathlib.Core.Path.{_≡_};
 ghost use Prim.Native.Nat.{_+_, _*_, _<_, _≤_};
 ghost use lib.ListN.{length, getD, drop};
@@ -56,19 +69,23 @@ fn judge_node(words: &[u64], sections: Sections, names: u64, node: usize) -> Jud
     ensures { λ r. ⌜ judgedOf r ≡ checkNode names (tableIn (now (words .entry)) sections) node (getD (rowsIn (now (words .entry)) sections) node rowUnknown) ⌝ }
 {
     let row = row_at(words, node);
-    if !row.is_well_formed(names) {
-        return Judged::Refused(Refusal::Malformed(node));
+    let code = row.code;
+    match code {
+        1 => judge_const(row, node),
+        2 => judge_read(words, row, node),
+        3 => judge_write(words, row, node),
+        12 | 15 => judge_comparison(words, row, node),
+        13 => judge_ext(words, row, node),
+        14 => judge_ite(words, row, node),
+        16 | 17 => judge_logic(words, row, node),
+        18 => judge_not(words, row, node),
+        19 => judge_state(words, row, names, node),
+        20 => judge_next(words, row, node),
+        21 => judge_input(row, names, node),
+        22 => judge_bad(words, row, names, node),
+        4..=11 => judge_word(words, row, node),
+        _ => Judged::Refused(Refusal::Malformed(node)),
     }
-    if !row.has_operands_below(node as u64) {
-        return Judged::Refused(Refusal::OperandNotBefore(node));
-    }
-    let first = node_at(words, sections, row.a);
-    let second = node_at(words, sections, row.b);
-    let third = node_at(words, sections, row.c);
-    if !row.is_well_sorted(first, second, third) {
-        return Judged::Refused(Refusal::Sorts(node));
-    }
-    Judged::Passed
 }
 
 pub(crate) fn judge_nodes(words: &[u64], sections: Sections, names: u64) -> Judged

@@ -1,129 +1,244 @@
--- `judge_node` tries rule 3, then 4, then 5.
+-- `judge_node` gives each code the function of its form; a code that names no kind breaks rule 3.
 -- Assumes nothing.
 use borrow.Author.Needs.{needs}
-use mathlib.Core.Path.{_≡_, sym, ap, _∙_}
-use borrow.Author.Tests.{not-true, not-false}
-use lib.ListN.{getD}
-use Rattle.rules.specs.Table.{Row, decode}
-use Rattle.rules.specs.Check.{rule3, rule4, rule5}
-use Rattle.tables.specs.NodeAnswers.{rowUnknown}
-use Rattle.tables.specs.Judging.{rowsIn, tableIn}
-use Rattle.tables.proofs.JudgeLaws.{rule5-rows, row-in, words-enough, fails-3, fails-4, fails-5, fails-none}
+use mathlib.Core.Path.{sym}
+use native.Mathlib.Omega.{arith}
+use Rattle.tables.specs.NodeAnswers.{rowIs}
+use Rattle.tables.proofs.NodeLaws.{not-known, rule3-unknown}
+use Rattle.tables.proofs.JudgeLaws.{node-checked, fails-3}
+use Rattle.tables.proofs.FormLaws.{word-low, logic-code}
 use Rattle.tables.proofs.nodes.judge_node.Statement.{statement}
 use Rattle.tables.proofs.nodes.judge_node.Tie as tie
 
 row-at-requires : tie.Need-row-at-requires
-row-at-requires c κs =
-    let ws = c .before .args .words .now in
-    let s = c .before .args .sections in
-    let k = c .before .args .node in
-    words-enough ws s (c .before .pre .0) k (c .before .pre .1)
+row-at-requires c κs = search needs
 
-is-well-formed-requires : tie.Need-is-well-formed-requires
-is-well-formed-requires c κs = search needs
+judge-const-requires : tie.Need-judge-const-requires
+judge-const-requires c κs = search needs
+
+judge-read-requires : tie.Need-judge-read-requires
+judge-read-requires c κs = search needs
+
+judge-write-requires : tie.Need-judge-write-requires
+judge-write-requires c κs = search needs
+
+judge-comparison-requires : tie.Need-judge-comparison-requires
+judge-comparison-requires c κs = search needs
+
+judge-ext-requires : tie.Need-judge-ext-requires
+judge-ext-requires c κs = search needs
+
+judge-ite-requires : tie.Need-judge-ite-requires
+judge-ite-requires c κs = search needs
+
+judge-not-requires : tie.Need-judge-not-requires
+judge-not-requires c κs = search needs
+
+judge-state-requires : tie.Need-judge-state-requires
+judge-state-requires c κs = search needs
+
+judge-next-requires : tie.Need-judge-next-requires
+judge-next-requires c κs = search needs
+
+judge-input-requires : tie.Need-judge-input-requires
+judge-input-requires c κs = search needs
+
+judge-bad-requires : tie.Need-judge-bad-requires
+judge-bad-requires c κs = search needs
+
+judge-word-requires : tie.Need-judge-word-requires
+judge-word-requires c κs =
+    let at-match = c .before .before in
+    let at-row-at = at-match .before in
+    (search needs, (word-low (at-row-at .row-at .result .code) (c .before .if1 .left) (at-match .match .rest .0 .0 .0 .0 .0 .0 .0 .0 .0 .0 .1) (at-match .match .rest .0 .0 .0 .0 .0 .0 .0 .0 .0 .1) (at-match .match .rest .0 .0 .0 .0 .0 .0 .0 .0 .1), c .if2 .taken))
+
+judge-logic-requires : tie.Need-judge-logic-requires
+judge-logic-requires c κs =
+    let at-match = c .before .before .before in
+    let at-row-at = at-match .before in
+    (search needs, logic-code (at-row-at .row-at .result .code) (c .before .if2 .left) (c .if3 .taken) (at-match .match .rest .0 .0 .0 .0 .0 .0 .0 .1) (at-match .match .rest .0 .0 .0 .0 .0 .0 .1) (at-match .match .rest .0 .0 .0 .0 .0 .1))
 
 returns : tie.Need-returns
 returns c =
-    let start = c .before .before .before .before in
+    let at-row-at = c .before .before in
+    let start = at-row-at .before .before in
     let ws = start .args .words .now in
     let s = start .args .sections in
-    let t = tableIn ws s in
     let names = start .args .names in
     let k = start .args .node in
-    let row = getD (rowsIn ws s) k rowUnknown in
-    let is-row = c .before .before .row-at .ensures ∙ sym (row-in ws s (start .pre .0) k (start .pre .1)) in
-    let rule-3 = ap (rule3 names) (sym is-row) ∙ sym (c .before .is-well-formed .ensures) in
-    sym (fails-3 names t k row (rule-3 ∙ not-true _ (c .if1 .taken)))
-
-has-operands-below-requires : tie.Need-has-operands-below-requires
-has-operands-below-requires c κs = search needs
+    node-checked ws s (start .pre .0) names k (start .pre .1) (rowIs (at-row-at .row-at .result)) (at-row-at .row-at .ensures) (λ t same. c .judge-const .ensures names t)
 
 returns-2 : tie.Need-returns-2
 returns-2 c =
-    let at-is-well-formed = c .before .before .before in
-    let at-row-at = at-is-well-formed .before in
+    let at-row-at = c .before .before in
     let start = at-row-at .before .before in
     let ws = start .args .words .now in
     let s = start .args .sections in
-    let t = tableIn ws s in
     let names = start .args .names in
     let k = start .args .node in
-    let row = getD (rowsIn ws s) k rowUnknown in
-    let is-row = at-row-at .row-at .ensures ∙ sym (row-in ws s (start .pre .0) k (start .pre .1)) in
-    let rule-3 = ap (rule3 names) (sym is-row) ∙ sym (at-is-well-formed .is-well-formed .ensures) in
-    let rule-4 = ap (λ (r : Row). rule4 k (decode r)) (sym is-row) ∙ sym (c .before .has-operands-below .ensures) in
-    sym (fails-4 names t k row (rule-3 ∙ not-false _ (c .before .before .if1 .left)) (rule-4 ∙ not-true _ (c .if2 .taken)))
-
-node-at-requires : tie.Need-node-at-requires
-node-at-requires c κs = search needs
-
-node-at-requires-2 : tie.Need-node-at-requires-2
-node-at-requires-2 c κs = search needs
-
-node-at-requires-3 : tie.Need-node-at-requires-3
-node-at-requires-3 c κs = search needs
-
-is-well-sorted-requires : tie.Need-is-well-sorted-requires
-is-well-sorted-requires c κs = search needs
+    node-checked ws s (start .pre .0) names k (start .pre .1) (rowIs (at-row-at .row-at .result)) (at-row-at .row-at .ensures) (c .judge-read .ensures names)
 
 returns-3 : tie.Need-returns-3
 returns-3 c =
-    let at-node-at2 = c .before .before .before in
-    let at-node-at = at-node-at2 .before in
-    let at-if2 = at-node-at .before in
-    let at-has-operands-below = at-if2 .before in
-    let at-if1 = at-has-operands-below .before in
-    let at-is-well-formed = at-if1 .before in
-    let at-row-at = at-is-well-formed .before in
+    let at-row-at = c .before .before in
     let start = at-row-at .before .before in
     let ws = start .args .words .now in
     let s = start .args .sections in
-    let t = tableIn ws s in
     let names = start .args .names in
     let k = start .args .node in
-    let row = getD (rowsIn ws s) k rowUnknown in
-    let is-row = at-row-at .row-at .ensures ∙ sym (row-in ws s (start .pre .0) k (start .pre .1)) in
-    let rule-3 = ap (rule3 names) (sym is-row) ∙ sym (at-is-well-formed .is-well-formed .ensures) in
-    let rule-4 = ap (λ (r : Row). rule4 k (decode r)) (sym is-row) ∙ sym (at-has-operands-below .has-operands-below .ensures) in
-    let operands = rule5-rows t (at-row-at .row-at .result) (at-node-at .node-at .result) (at-node-at2 .node-at2 .result) (c .before .before .node-at3 .result) (at-node-at .node-at .ensures) (at-node-at2 .node-at2 .ensures) (c .before .before .node-at3 .ensures) in
-    let rule-5 = ap (λ (r : Row). rule5 t (decode r)) (sym is-row) ∙ sym operands ∙ sym (c .before .is-well-sorted .ensures) in
-    sym (fails-5 names t k row (rule-3 ∙ not-false _ (at-if1 .if1 .left)) (rule-4 ∙ not-false _ (at-if2 .if2 .left)) (rule-5 ∙ not-true _ (c .if3 .taken)))
+    node-checked ws s (start .pre .0) names k (start .pre .1) (rowIs (at-row-at .row-at .result)) (at-row-at .row-at .ensures) (c .judge-write .ensures names)
 
 returns-4 : tie.Need-returns-4
 returns-4 c =
-    let at-node-at2 = c .before .before .before in
-    let at-node-at = at-node-at2 .before in
-    let at-if2 = at-node-at .before in
-    let at-has-operands-below = at-if2 .before in
-    let at-if1 = at-has-operands-below .before in
-    let at-is-well-formed = at-if1 .before in
-    let at-row-at = at-is-well-formed .before in
+    let at-row-at = c .before .before in
     let start = at-row-at .before .before in
     let ws = start .args .words .now in
     let s = start .args .sections in
-    let t = tableIn ws s in
     let names = start .args .names in
     let k = start .args .node in
-    let row = getD (rowsIn ws s) k rowUnknown in
-    let is-row = at-row-at .row-at .ensures ∙ sym (row-in ws s (start .pre .0) k (start .pre .1)) in
-    let rule-3 = ap (rule3 names) (sym is-row) ∙ sym (at-is-well-formed .is-well-formed .ensures) in
-    let rule-4 = ap (λ (r : Row). rule4 k (decode r)) (sym is-row) ∙ sym (at-has-operands-below .has-operands-below .ensures) in
-    let operands = rule5-rows t (at-row-at .row-at .result) (at-node-at .node-at .result) (at-node-at2 .node-at2 .result) (c .before .before .node-at3 .result) (at-node-at .node-at .ensures) (at-node-at2 .node-at2 .ensures) (c .before .before .node-at3 .ensures) in
-    let rule-5 = ap (λ (r : Row). rule5 t (decode r)) (sym is-row) ∙ sym operands ∙ sym (c .before .is-well-sorted .ensures) in
-    sym (fails-none names t k row (rule-3 ∙ not-false _ (at-if1 .if1 .left)) (rule-4 ∙ not-false _ (at-if2 .if2 .left)) (rule-5 ∙ not-false _ (c .if3 .left)))
+    node-checked ws s (start .pre .0) names k (start .pre .1) (rowIs (at-row-at .row-at .result)) (at-row-at .row-at .ensures) (c .judge-comparison .ensures names)
+
+returns-5 : tie.Need-returns-5
+returns-5 c =
+    let at-row-at = c .before .before in
+    let start = at-row-at .before .before in
+    let ws = start .args .words .now in
+    let s = start .args .sections in
+    let names = start .args .names in
+    let k = start .args .node in
+    node-checked ws s (start .pre .0) names k (start .pre .1) (rowIs (at-row-at .row-at .result)) (at-row-at .row-at .ensures) (c .judge-ext .ensures names)
+
+returns-6 : tie.Need-returns-6
+returns-6 c =
+    let at-row-at = c .before .before in
+    let start = at-row-at .before .before in
+    let ws = start .args .words .now in
+    let s = start .args .sections in
+    let names = start .args .names in
+    let k = start .args .node in
+    node-checked ws s (start .pre .0) names k (start .pre .1) (rowIs (at-row-at .row-at .result)) (at-row-at .row-at .ensures) (c .judge-ite .ensures names)
+
+returns-7 : tie.Need-returns-7
+returns-7 c =
+    let at-row-at = c .before .before in
+    let start = at-row-at .before .before in
+    let ws = start .args .words .now in
+    let s = start .args .sections in
+    let names = start .args .names in
+    let k = start .args .node in
+    node-checked ws s (start .pre .0) names k (start .pre .1) (rowIs (at-row-at .row-at .result)) (at-row-at .row-at .ensures) (c .judge-not .ensures names)
+
+returns-8 : tie.Need-returns-8
+returns-8 c =
+    let at-row-at = c .before .before in
+    let start = at-row-at .before .before in
+    let ws = start .args .words .now in
+    let s = start .args .sections in
+    let names = start .args .names in
+    let k = start .args .node in
+    node-checked ws s (start .pre .0) names k (start .pre .1) (rowIs (at-row-at .row-at .result)) (at-row-at .row-at .ensures) (c .judge-state .ensures)
+
+returns-9 : tie.Need-returns-9
+returns-9 c =
+    let at-row-at = c .before .before in
+    let start = at-row-at .before .before in
+    let ws = start .args .words .now in
+    let s = start .args .sections in
+    let names = start .args .names in
+    let k = start .args .node in
+    node-checked ws s (start .pre .0) names k (start .pre .1) (rowIs (at-row-at .row-at .result)) (at-row-at .row-at .ensures) (c .judge-next .ensures names)
+
+returns-10 : tie.Need-returns-10
+returns-10 c =
+    let at-row-at = c .before .before in
+    let start = at-row-at .before .before in
+    let ws = start .args .words .now in
+    let s = start .args .sections in
+    let names = start .args .names in
+    let k = start .args .node in
+    node-checked ws s (start .pre .0) names k (start .pre .1) (rowIs (at-row-at .row-at .result)) (at-row-at .row-at .ensures) (λ t same. c .judge-input .ensures t)
+
+returns-11 : tie.Need-returns-11
+returns-11 c =
+    let at-row-at = c .before .before in
+    let start = at-row-at .before .before in
+    let ws = start .args .words .now in
+    let s = start .args .sections in
+    let names = start .args .names in
+    let k = start .args .node in
+    node-checked ws s (start .pre .0) names k (start .pre .1) (rowIs (at-row-at .row-at .result)) (at-row-at .row-at .ensures) (c .judge-bad .ensures)
+
+returns-12 : tie.Need-returns-12
+returns-12 c =
+    let at-row-at = c .before .before .before .before in
+    let start = at-row-at .before .before in
+    let ws = start .args .words .now in
+    let s = start .args .sections in
+    let names = start .args .names in
+    let k = start .args .node in
+    node-checked ws s (start .pre .0) names k (start .pre .1) (rowIs (at-row-at .row-at .result)) (at-row-at .row-at .ensures) (c .judge-word .ensures names)
+
+returns-13 : tie.Need-returns-13
+returns-13 c =
+    let at-row-at = c .before .before .before .before .before in
+    let start = at-row-at .before .before in
+    let ws = start .args .words .now in
+    let s = start .args .sections in
+    let names = start .args .names in
+    let k = start .args .node in
+    node-checked ws s (start .pre .0) names k (start .pre .1) (rowIs (at-row-at .row-at .result)) (at-row-at .row-at .ensures) (c .judge-logic .ensures names)
+
+returns-14 : tie.Need-returns-14
+returns-14 c =
+    let at-row-at = c .before .before in
+    let start = at-row-at .before .before in
+    let ws = start .args .words .now in
+    let s = start .args .sections in
+    let names = start .args .names in
+    let k = start .args .node in
+    node-checked ws s (start .pre .0) names k (start .pre .1) (rowIs (at-row-at .row-at .result)) (at-row-at .row-at .ensures) (λ t same. sym (fails-3 names t k (rowIs (at-row-at .row-at .result)) (sym (rule3-unknown names (rowIs (at-row-at .row-at .result)) (not-known (at-row-at .row-at .result .code) (λ h. omega (arith, h .0, c .if1 .taken, c .before .match .rest .0 .0 .0 .0 .0 .0 .0 .0 .1, c .before .match .rest .0 .0 .0 .0 .0 .0 .0 .0 .0 .1, c .before .match .rest .0 .0 .0 .0 .0 .0 .0 .0 .0 .0 .1)))))))
+
+returns-15 : tie.Need-returns-15
+returns-15 c =
+    let at-match = c .before .before .before in
+    let at-row-at = at-match .before in
+    let start = at-row-at .before .before in
+    let ws = start .args .words .now in
+    let s = start .args .sections in
+    let names = start .args .names in
+    let k = start .args .node in
+    node-checked ws s (start .pre .0) names k (start .pre .1) (rowIs (at-row-at .row-at .result)) (at-row-at .row-at .ensures) (λ t same. sym (fails-3 names t k (rowIs (at-row-at .row-at .result)) (sym (rule3-unknown names (rowIs (at-row-at .row-at .result)) (not-known (at-row-at .row-at .result .code) (λ h. omega (arith, h .1, c .if3 .left, at-match .match .rest .1, at-match .match .rest .0 .1, at-match .match .rest .0 .0 .1, at-match .match .rest .0 .0 .0 .1, at-match .match .rest .0 .0 .0 .0 .1)))))))
 
 pub judge-node-spec : {M : Type 1} → statement M
 judge-node-spec =
     tie.close
     (tie.spec
     row-at-requires
-    is-well-formed-requires
+    judge-const-requires
+    judge-read-requires
+    judge-write-requires
+    judge-comparison-requires
+    judge-ext-requires
+    judge-ite-requires
+    judge-not-requires
+    judge-state-requires
+    judge-next-requires
+    judge-input-requires
+    judge-bad-requires
+    judge-word-requires
+    judge-logic-requires
     returns
-    has-operands-below-requires
     returns-2
-    node-at-requires
-    node-at-requires-2
-    node-at-requires-3
-    is-well-sorted-requires
     returns-3
-    returns-4)
+    returns-4
+    returns-5
+    returns-6
+    returns-7
+    returns-8
+    returns-9
+    returns-10
+    returns-11
+    returns-12
+    returns-13
+    returns-14
+    returns-15)

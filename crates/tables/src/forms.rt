@@ -1,0 +1,61 @@
+// What judging a node by its form shares: the first rule that is broken, and the code and the sort of an operand.
+use crate::logic::all;
+use crate::nodes::Judged;
+use crate::refusal::Refusal;
+ghost use mathlib.Core.Path.{_≡_};
+ghost use mathlib.Core.Bool.{_&&_, not};
+ghost use mathlib.Core.List.{[], _∷_};
+ghost use Prim.Native.Nat.{_+_, _*_, _≤_};
+ghost use lib.Dec.{eqb};
+ghost use lib.ListN.{length};
+ghost use Rattle.rules.specs.Refusal.{unless, firstOf};
+ghost use Rattle.rules.specs.Table.{decode};
+ghost use Rattle.rules.specs.Check.{mayServe};
+ghost use Rattle.tables.specs.Judging.{judgedOf, rowAt};
+
+// The first of rules 3, 4 and 5 that a node breaks.
+pub(crate) fn told(node: usize, three: bool, four: bool, five: bool) -> Judged
+    ensures { λ r. ⌜ judgedOf r ≡ firstOf (unless three 3 1 node ∷ unless four 4 1 node ∷ unless five 5 1 node ∷ []) ⌝ }
+{
+    if !three {
+        return Judged::Refused(Refusal::Malformed(node));
+    }
+    if !four {
+        return Judged::Refused(Refusal::OperandNotBefore(node));
+    }
+    if !five {
+        return Judged::Refused(Refusal::Sorts(node));
+    }
+    Judged::Passed
+}
+
+// The code of a node's kind.
+pub(crate) fn code_at(words: &[u64], number: u64) -> u64
+    requires { ⌜ 6 * number + 7 ≤ length (now words) ⌝ }
+    ensures { λ r. ⌜ r ≡ rowAt (now (words .entry)) number .code ⌝ }
+{
+    words[6 * (number as usize) + 1]
+}
+
+pub(crate) fn sort_at(words: &[u64], number: u64) -> u64
+    requires { ⌜ 6 * number + 7 ≤ length (now words) ⌝ }
+    ensures { λ r. ⌜ r ≡ rowAt (now (words .entry)) number .sort ⌝ }
+{
+    words[6 * (number as usize) + 2]
+}
+
+// Whether a node may be an operand: neither a Next nor a Bad.
+pub(crate) fn serves(words: &[u64], number: u64) -> bool
+    requires { ⌜ 6 * number + 7 ≤ length (now words) ⌝ }
+    ensures { λ r. ⌜ r ≡ mayServe (decode (rowAt (now (words .entry)) number)) ⌝ }
+{
+    let code = code_at(words, number);
+    all(code != 20, code != 22)
+}
+
+// Whether two sorts are one, other than a memory's.
+pub(crate) fn same_numbers(left: u64, right: u64) -> bool
+    ensures { λ r. ⌜ r ≡ (eqb left right && not (eqb left 3)) ⌝ }
+{
+    all(left == right, left != 3)
+}

@@ -1,0 +1,115 @@
+// Rules 3, 4 and 5 of a node without operands or with one, by its kind.
+// The operand is read only where it is below the node, which rule 4 asks.
+use crate::forms::same_numbers;
+use crate::forms::serves;
+use crate::forms::sort_at;
+use crate::forms::told;
+use crate::logic::all;
+use crate::node::Row;
+use crate::node::fits_sort;
+use crate::node::known_sort;
+use crate::nodes::Judged;
+ghost use mathlib.Core.Path.{_≡_};
+ghost use mathlib.Core.List.{List};
+ghost use Prim.Native.Nat.{ℕ, _+_, _*_, _≤_};
+ghost use lib.ListN.{length};
+ghost use Rattle.rules.specs.Table.{Node};
+ghost use Rattle.rules.specs.Check.{checkNode};
+ghost use Rattle.tables.specs.NodeAnswers.{rowIs};
+ghost use Rattle.tables.specs.Judging.{judgedOf, IsChecked};
+
+pub(crate) fn judge_const(row: Row, node: usize) -> Judged
+    requires { ⌜ row .code ≡ 1 ⌝ }
+    ensures { λ r. ⌜ ((names : ℕ) (t : List Node) → judgedOf r ≡ checkNode names t node (rowIs row)) ⌝ }
+{
+    let unused = all(row.b == 0, row.c == 0);
+    let formed = all(known_sort(row.sort), all(unused, row.name == 0));
+    let sorted = all(row.sort != 3, fits_sort(row.sort, row.a));
+    told(node, formed, true, sorted)
+}
+
+// An Input has a name.
+pub(crate) fn judge_input(row: Row, names: u64, node: usize) -> Judged
+    requires { ⌜ row .code ≡ 21 ⌝ }
+    ensures { λ r. ⌜ ((t : List Node) → judgedOf r ≡ checkNode names t node (rowIs row)) ⌝ }
+{
+    let unused = all(row.a == 0, all(row.b == 0, row.c == 0));
+    let named = all(row.name <= names, row.name != 0);
+    told(
+        node,
+        all(known_sort(row.sort), all(unused, named)),
+        true,
+        true,
+    )
+}
+
+// A State has an operand where b is 1, and may have a name.
+pub(crate) fn judge_state(words: &[u64], row: Row, names: u64, node: usize) -> Judged
+    requires { ⌜ 6 * node + 1 ≤ length (now words) ⌝ }
+    requires { ⌜ row .code ≡ 19 ⌝ }
+    ensures { λ r. ⌜ IsChecked (now (words .entry)) names node (rowIs row) (judgedOf r) ⌝ }
+{
+    let named = row.name <= names;
+    if row.b != 1 {
+        let unused = all(row.a == 0, all(row.b == 0, row.c == 0));
+        let formed = all(known_sort(row.sort), all(unused, named));
+        return told(node, formed, true, true);
+    }
+    let formed = all(known_sort(row.sort), all(row.c == 0, named));
+    let before = row.a < node as u64;
+    if !all(formed, before) {
+        return told(node, formed, before, true);
+    }
+    let sorted = sort_at(words, row.a) == row.sort;
+    told(node, true, true, all(serves(words, row.a), sorted))
+}
+
+// The sort that an Ext widens stands in b.
+pub(crate) fn judge_ext(words: &[u64], row: Row, node: usize) -> Judged
+    requires { ⌜ 6 * node + 1 ≤ length (now words) ⌝ }
+    requires { ⌜ row .code ≡ 13 ⌝ }
+    ensures { λ r. ⌜ ((names : ℕ) → IsChecked (now (words .entry)) names node (rowIs row) (judgedOf r)) ⌝ }
+{
+    let unused = all(row.c == 0, row.name == 0);
+    let formed = all(known_sort(row.sort), all(known_sort(row.b), unused));
+    let before = row.a < node as u64;
+    if !all(formed, before) {
+        return told(node, formed, before, true);
+    }
+    let first = sort_at(words, row.a);
+    let sorted = all(row.sort == 2, same_numbers(first, row.b));
+    told(node, true, true, all(serves(words, row.a), sorted))
+}
+
+pub(crate) fn judge_not(words: &[u64], row: Row, node: usize) -> Judged
+    requires { ⌜ 6 * node + 1 ≤ length (now words) ⌝ }
+    requires { ⌜ row .code ≡ 18 ⌝ }
+    ensures { λ r. ⌜ ((names : ℕ) → IsChecked (now (words .entry)) names node (rowIs row) (judgedOf r)) ⌝ }
+{
+    let unused = all(row.b == 0, row.c == 0);
+    let formed = all(known_sort(row.sort), all(unused, row.name == 0));
+    let before = row.a < node as u64;
+    if !all(formed, before) {
+        return told(node, formed, before, true);
+    }
+    let first = sort_at(words, row.a);
+    let sorted = all(row.sort != 3, first == row.sort);
+    told(node, true, true, all(serves(words, row.a), sorted))
+}
+
+// A Bad may have a name.
+pub(crate) fn judge_bad(words: &[u64], row: Row, names: u64, node: usize) -> Judged
+    requires { ⌜ 6 * node + 1 ≤ length (now words) ⌝ }
+    requires { ⌜ row .code ≡ 22 ⌝ }
+    ensures { λ r. ⌜ IsChecked (now (words .entry)) names node (rowIs row) (judgedOf r) ⌝ }
+{
+    let unused = all(row.b == 0, row.c == 0);
+    let formed = all(known_sort(row.sort), all(unused, row.name <= names));
+    let before = row.a < node as u64;
+    if !all(formed, before) {
+        return told(node, formed, before, true);
+    }
+    let first = sort_at(words, row.a);
+    let sorted = all(row.sort == 1, first == 1);
+    told(node, true, true, all(serves(words, row.a), sorted))
+}
