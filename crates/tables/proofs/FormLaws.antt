@@ -1,105 +1,52 @@
--- Laws for the proofs of forms.rt, single.rt and several.rt: what rules 3, 4 and 5 ask of a row by its code, and the first that fails.
+-- Laws for the proofs of forms.rt, single.rt, several.rt and judge_node: what rules 3, 4 and 5 ask of a row by its code.
+--     Takes     a code's unused words and operands, where its kind has no name
 -- Assumes nothing.
-use Prim.Native.Nat.{ℕ, zero, suc, _+_, _*_, _<_, _≤_}
-use mathlib.Core.Path.{_≡_, refl, sym, ap, ap₂, _∙_, subst}
-use mathlib.Core.Bool.{Bool, true, false, _&&_, _||_, not, and-true, false≢true}
+use Prim.Native.Nat.{ℕ, zero, suc, _<_, _≤_}
+use mathlib.Core.Path.{_≡_, refl, sym, _∙_, subst}
+use mathlib.Core.Bool.{Bool, true, false, _&&_, _||_, not, and-true}
 use mathlib.Core.Logic.{_⊎_, inl, inr, ⊎-elim}
 use mathlib.Core.List.{List, [], _∷_}
 use native.Mathlib.Omega.{arith}
 use lib.Dec.{ltb, leb, eqb}
-use lib.ListN.{length}
-use borrow.Author.Tests.{ltb-true, eqb-true, eqb-false, le-leb, ne-eqb, not-true, not-false}
+use borrow.Author.Tests.{eqb-true, eqb-false, le-leb, ne-eqb, not-true}
 use Rattle.rules.specs.Refusal.{unless, firstOf}
 use Rattle.rules.specs.Lists.{allTrue, every}
 use Rattle.rules.specs.Table.{Node, Row, kindOf, kindCode, decode, fits, nodeAt, operands, operandsAs}
-use Rattle.rules.specs.Check.{knownKind, knownSort, unusedAs, mayServe, sortedAs, sorted, rule3, rule4, rule5, checkNode}
+use Rattle.rules.specs.Check.{knownKind, knownSort, unusedAs, mayServe, sortedAs, sorted, rule3, checkNode}
 use Rattle.rules.proofs.Base.{and-both}
 use Rattle.tables.specs.Judging.{rowAt}
-use Rattle.tables.proofs.JudgeLaws.{fails-3, fails-4, fails-5, fails-none}
+use Rattle.tables.proofs.ToldLaws.{told-early, told-late}
 use Rattle.tables.proofs.NodeLaws.{is-code}
 
--- ---- the first rule that fails, for a row whose operands are l
-below-first : (k x : ℕ) (l : List ℕ) → every (λ y. ltb y k) (x ∷ l) ≡ true → x < k
-below-first k x l h = ltb-true x k (and-both (ltb x k) (every (λ y. ltb y k) l) h .0)
+-- ---- codes
+-- neither of two
+pub not-either : (p q : Bool) → (not p && not q) ≡ not (p || q)
+not-either true q = refl
+not-either false q = refl
 
-below-rest : (k x : ℕ) (l : List ℕ) → every (λ y. ltb y k) (x ∷ l) ≡ true → every (λ y. ltb y k) l ≡ true
-below-rest k x l h = and-both (ltb x k) (every (λ y. ltb y k) l) h .1
-
-all-below : (k : ℕ) (l : List ℕ) (three : Bool) {four both : Bool} → four ≡ every (λ x. ltb x k) l → both ≡ (three && four) → not both ≡ false
-    → every (λ x. ltb x k) l ≡ true
-all-below k l three {four} {both} q a n = sym q ∙ and-both three four (sym a ∙ not-false both n) .1
-
-two-below : (k x y : ℕ) (l : List ℕ) → every (λ z. ltb z k) (x ∷ y ∷ l) ≡ true → (x < k) × (y < k)
-two-below k x y l h = (below-first k x (y ∷ l) h, below-first k y l (below-rest k x (y ∷ l) h))
-
--- where rule 4 holds beside another test, the operands are below the node
-pub one-low : (k x : ℕ) (three : Bool) {both : Bool} → both ≡ (three && ltb x k) → not both ≡ false → x < k
-one-low k x three {both} a n = ltb-true x k (and-both three (ltb x k) (sym a ∙ not-false both n) .1)
-
-pub two-low : (k x y : ℕ) (three : Bool) {four both : Bool} → four ≡ every (λ z. ltb z k) (x ∷ y ∷ []) → both ≡ (three && four) → not both ≡ false
-    → (x < k) × (y < k)
-two-low k x y three q a n = two-below k x y [] (all-below k (x ∷ y ∷ []) three q a n)
-
-pub three-low : (k x y z : ℕ) (three : Bool) {four both : Bool} → four ≡ every (λ u. ltb u k) (x ∷ y ∷ z ∷ []) → both ≡ (three && four) → not both ≡ false
-    → (x < k) × (y < k) × (z < k)
-three-low k x y z three q a n =
-    let h = all-below k (x ∷ y ∷ z ∷ []) three q a n in
-    let low = two-below k y z [] (below-rest k x (y ∷ z ∷ []) h) in
-    (below-first k x (y ∷ z ∷ []) h, low .0, low .1)
-
--- a test of two, and of a third
-pub every-third : (p : ℕ → Bool) (x y z : ℕ) → (every p (x ∷ y ∷ []) && p z) ≡ every p (x ∷ y ∷ z ∷ [])
-every-third p x y z = go (p x) (p y) (p z)
+-- what holds of each operator on words
+word-code : (P : ℕ → Type 0) → P 4 → P 5 → P 6 → P 7 → P 8 → P 9 → P 10 → P 11 → (code : ℕ) → (4 ≤ code) × (code < 12) → P code
+word-code P p4 p5 p6 p7 p8 p9 p10 p11 code h =
+    at 4 p4 (at 5 p5 (at 6 p6 (at 7 p7 (at 8 p8 (at 9 p9 (at 10 p10 (at 11 p11 (λ l. absurd (omega (arith, h .1)))))))))) (h .0)
   where
-    go : (a b c : Bool) → ((a && (b && true)) && c) ≡ (a && (b && (c && true)))
-    go true true c = sym (and-true c)
-    go true false c = refl
-    go false b c = refl
+    at : (n : ℕ) → P n → (suc n ≤ code → P code) → n ≤ code → P code
+    at n p f l = go (eqb code n) refl
+      where
+        go : (b : Bool) → eqb code n ≡ b → P code
+        go true e = subst P (sym (eqb-true code n e)) p
+        go false e = let d = eqb-false code n e in f (omega arith)
 
--- the words of a node below another
-pub room : (ws : List ℕ) (k x : ℕ) → 6 * k + 1 ≤ length ws → x < k → 6 * x + 7 ≤ length ws
-room ws k x h l = omega arith
+-- a code that is none of those below Add
+pub word-low : (code : ℕ) → 1 ≤ code → (code ≡ 1 → ⊥) → (code ≡ 2 → ⊥) → (code ≡ 3 → ⊥) → 4 ≤ code
+word-low code h p q o = omega arith
 
-serve-below : (k : ℕ) (ws : List ℕ) (t : List Node) → ((x : ℕ) → x < k → nodeAt t x ≡ decode (rowAt ws x))
-    → (l : List ℕ) → every (λ x. ltb x k) l ≡ true → every (λ x. mayServe (decode (rowAt ws x))) l ≡ every (λ x. mayServe (nodeAt t x)) l
-serve-below k ws t same [] h = refl
-serve-below k ws t same (x ∷ l) h =
-    ap₂ _&&_ (ap mayServe (sym (same x (below-first k x l h)))) (serve-below k ws t same l (below-rest k x l h))
-
-module _ (names : ℕ) (t : List Node) (k : ℕ) (r : Row) (l : List ℕ) (o : operands (decode r) ≡ l) {three four both : Bool}
-    (p : three ≡ rule3 names r) (q : four ≡ every (λ x. ltb x k) l) (a : both ≡ (three && four)) where
-  is-rule4 : four ≡ rule4 k (decode r)
-  is-rule4 = q ∙ ap (every (λ x. ltb x k)) (sym o)
-
-  -- where rule 3 or 4 fails, rule 5 does not matter
-  pub told-early : not both ≡ true → firstOf (unless three 3 1 k ∷ unless four 4 1 k ∷ unless true 5 1 k ∷ []) ≡ checkNode names t k r
-  told-early n = go three p four is-rule4 (sym a ∙ not-true both n)
-    where
-      go : (three : Bool) → three ≡ rule3 names r → (four : Bool) → four ≡ rule4 k (decode r) → (three && four) ≡ false
-          → firstOf (unless three 3 1 k ∷ unless four 4 1 k ∷ unless true 5 1 k ∷ []) ≡ checkNode names t k r
-      go true p true q h = absurd (false≢true (sym h))
-      go true p false q h = sym (fails-4 names t k r (sym p) (sym q))
-      go false p four q h = sym (fails-3 names t k r (sym p))
-
-  pub told-late : (ws : List ℕ) → ((x : ℕ) → x < k → nodeAt t x ≡ decode (rowAt ws x)) → not both ≡ false
-      → {serve fit five : Bool} → serve ≡ every (λ x. mayServe (decode (rowAt ws x))) l → fit ≡ allTrue (sorted t (decode r)) → five ≡ (serve && fit)
-      → firstOf (unless true 3 1 k ∷ unless true 4 1 k ∷ unless five 5 1 k ∷ []) ≡ checkNode names t k r
-  told-late ws same n {serve} {fit} {five} s f e = go five (e ∙ ap₂ _&&_ serves f)
-    where
-      holds : (three ≡ true) × (four ≡ true)
-      holds = and-both three four (sym a ∙ not-false both n)
-
-      serves : serve ≡ every (λ x. mayServe (nodeAt t x)) (operands (decode r))
-      serves = s ∙ serve-below k ws t same l (sym q ∙ holds .1) ∙ ap (every (λ x. mayServe (nodeAt t x))) (sym o)
-
-      go : (five : Bool) → five ≡ rule5 t (decode r) → firstOf (unless true 3 1 k ∷ unless true 4 1 k ∷ unless five 5 1 k ∷ []) ≡ checkNode names t k r
-      go true e = sym (fails-none names t k r (sym p ∙ holds .0) (sym is-rule4 ∙ holds .1) (sym e))
-      go false e = sym (fails-5 names t k r (sym p ∙ holds .0) (sym is-rule4 ∙ holds .1) (sym e))
-
--- the same for a row without operands
-pub told-alone : (names : ℕ) (t : List Node) (k : ℕ) (r : Row) → operands (decode r) ≡ [] → {three fit : Bool} → three ≡ rule3 names r → fit ≡ allTrue (sorted t (decode r))
-    → firstOf (unless three 3 1 k ∷ unless true 4 1 k ∷ unless fit 5 1 k ∷ []) ≡ checkNode names t k r
-told-alone names t k r o p f = rw (o, p, f)
+-- a code from Ult's to Or's that is none of those below And
+pub logic-code : (code : ℕ) → 12 ≤ code → code < 18 → ((code ≡ 12) ⊎ (code ≡ 15) → ⊥) → (code ≡ 13 → ⊥) → (code ≡ 14 → ⊥) → (code ≡ 16) ⊎ (code ≡ 17)
+logic-code code h l p q o = go (eqb code 16) refl (λ e. p (inl e)) (λ e. p (inr e))
+  where
+    go : (b : Bool) → eqb code 16 ≡ b → (code ≡ 12 → ⊥) → (code ≡ 15 → ⊥) → (code ≡ 16) ⊎ (code ≡ 17)
+    go true e u v = inl (eqb-true code 16 e)
+    go false e u v = let d = eqb-false code 16 e in inr (omega arith)
 
 -- ---- names, by whether the kind must have none, may have one or must have one
 unnamed : (names name : ℕ) → eqb name 0 ≡ (leb name names && ((((eqb name 0 || false) || false) || false) && ((not (eqb name 0) || true) && true)))
@@ -136,7 +83,7 @@ pub record Takes (code : ℕ) (rest named : Node → List ℕ) : Type 0 where
   pub unused : (nd : Node) → unusedAs (kindOf code) nd ≡ rest nd
   pub operands : (nd : Node) → operandsAs (kindOf code) nd ≡ named nd
 
-pub rule3-takes : (names : ℕ) (r : Row) {rest named : Node → List ℕ} → Takes (r .code) rest named
+rule3-takes : (names : ℕ) (r : Row) {rest named : Node → List ℕ} → Takes (r .code) rest named
     → (knownSort (r .sort) && (every (λ x. eqb x 0) (rest (decode r)) && eqb (r .name) 0)) ≡ rule3 names r
 rule3-takes names r h =
     let code = kindCode (kindOf (r .code)) in
@@ -146,27 +93,23 @@ rule3-takes names r h =
     let u = and-both (not (eqb code 22)) _ (o .1) in
     rw (p .0, not-true (eqb code 13) (q .0), not-true (eqb code 19) (o .0), not-true (eqb code 22) (u .0), not-true (eqb code 21) (u .1), h .unused (decode r), ← unnamed names (r .name))
 
--- what stands in c, and in a and b
+module _ (names : ℕ) (t : List Node) (k : ℕ) (r : Row) {rest named : Node → List ℕ} (h : Takes (r .code) rest named) {three four both : Bool}
+    (p : three ≡ (knownSort (r .sort) && (every (λ x. eqb x 0) (rest (decode r)) && eqb (r .name) 0)))
+    (q : four ≡ every (λ x. ltb x k) (named (decode r))) (a : both ≡ (three && four)) where
+  pub takes-early : not both ≡ true → firstOf (unless three 3 1 k ∷ unless four 4 1 k ∷ unless true 5 1 k ∷ []) ≡ checkNode names t k r
+  takes-early = told-early names t k r (named (decode r)) (h .operands (decode r)) (p ∙ rule3-takes names r h) q a
+
+  pub takes-late : (ws : List ℕ) → ((x : ℕ) → x < k → nodeAt t x ≡ decode (rowAt ws x)) → not both ≡ false
+      → {serve fit five : Bool} → serve ≡ every (λ x. mayServe (decode (rowAt ws x))) (named (decode r)) → fit ≡ allTrue (sorted t (decode r)) → five ≡ (serve && fit)
+      → firstOf (unless true 3 1 k ∷ unless true 4 1 k ∷ unless five 5 1 k ∷ []) ≡ checkNode names t k r
+  takes-late = told-late names t k r (named (decode r)) (h .operands (decode r)) (p ∙ rule3-takes names r h) q a
+
+-- two operands, in a and b, and three
 abbrev pub TakesTwo : ℕ → Type 0
 TakesTwo code = Takes code (λ nd. nd .c ∷ []) (λ nd. nd .a ∷ nd .b ∷ [])
 
 abbrev pub TakesThree : ℕ → Type 0
 TakesThree code = Takes code (λ nd. []) (λ nd. nd .a ∷ nd .b ∷ nd .c ∷ [])
-
-word-code : (P : ℕ → Type 0) → P 4 → P 5 → P 6 → P 7 → P 8 → P 9 → P 10 → P 11 → (code : ℕ) → (4 ≤ code) × (code < 12) → P code
-word-code P p4 p5 p6 p7 p8 p9 p10 p11 zero h = absurd (omega arith)
-word-code P p4 p5 p6 p7 p8 p9 p10 p11 (suc zero) h = absurd (omega arith)
-word-code P p4 p5 p6 p7 p8 p9 p10 p11 (suc (suc zero)) h = absurd (omega arith)
-word-code P p4 p5 p6 p7 p8 p9 p10 p11 (suc (suc (suc zero))) h = absurd (omega arith)
-word-code P p4 p5 p6 p7 p8 p9 p10 p11 (suc (suc (suc (suc zero)))) h = p4
-word-code P p4 p5 p6 p7 p8 p9 p10 p11 (suc (suc (suc (suc (suc zero))))) h = p5
-word-code P p4 p5 p6 p7 p8 p9 p10 p11 (suc (suc (suc (suc (suc (suc zero)))))) h = p6
-word-code P p4 p5 p6 p7 p8 p9 p10 p11 (suc (suc (suc (suc (suc (suc (suc zero))))))) h = p7
-word-code P p4 p5 p6 p7 p8 p9 p10 p11 (suc (suc (suc (suc (suc (suc (suc (suc zero)))))))) h = p8
-word-code P p4 p5 p6 p7 p8 p9 p10 p11 (suc (suc (suc (suc (suc (suc (suc (suc (suc zero))))))))) h = p9
-word-code P p4 p5 p6 p7 p8 p9 p10 p11 (suc (suc (suc (suc (suc (suc (suc (suc (suc (suc zero)))))))))) h = p10
-word-code P p4 p5 p6 p7 p8 p9 p10 p11 (suc (suc (suc (suc (suc (suc (suc (suc (suc (suc (suc zero))))))))))) h = p11
-word-code P p4 p5 p6 p7 p8 p9 p10 p11 (suc (suc (suc (suc (suc (suc (suc (suc (suc (suc (suc (suc n)))))))))))) h = absurd (omega arith)
 
 pub read-takes : TakesTwo 2
 read-takes = record { plain = refl; unused = λ nd. refl; operands = λ nd. refl }
@@ -175,9 +118,13 @@ pub write-takes : TakesThree 3
 write-takes = record { plain = refl; unused = λ nd. refl; operands = λ nd. refl }
 
 pub word-takes : (code : ℕ) → (4 ≤ code) × (code < 12) → TakesTwo code
-word-takes = word-code TakesTwo (takes 4 refl (λ nd. refl) (λ nd. refl)) (takes 5 refl (λ nd. refl) (λ nd. refl)) (takes 6 refl (λ nd. refl) (λ nd. refl)) (takes 7 refl (λ nd. refl) (λ nd. refl)) (takes 8 refl (λ nd. refl) (λ nd. refl)) (takes 9 refl (λ nd. refl) (λ nd. refl)) (takes 10 refl (λ nd. refl) (λ nd. refl)) (takes 11 refl (λ nd. refl) (λ nd. refl))
+word-takes =
+    word-code TakesTwo (takes 4 refl (λ nd. refl) (λ nd. refl)) (takes 5 refl (λ nd. refl) (λ nd. refl))
+    (takes 6 refl (λ nd. refl) (λ nd. refl)) (takes 7 refl (λ nd. refl) (λ nd. refl)) (takes 8 refl (λ nd. refl) (λ nd. refl))
+    (takes 9 refl (λ nd. refl) (λ nd. refl)) (takes 10 refl (λ nd. refl) (λ nd. refl)) (takes 11 refl (λ nd. refl) (λ nd. refl))
   where
-    takes : (code : ℕ) → plain code ≡ true → ((nd : Node) → unusedAs (kindOf code) nd ≡ nd .c ∷ []) → ((nd : Node) → operandsAs (kindOf code) nd ≡ nd .a ∷ nd .b ∷ []) → TakesTwo code
+    takes : (code : ℕ) → plain code ≡ true → ((nd : Node) → unusedAs (kindOf code) nd ≡ nd .c ∷ [])
+        → ((nd : Node) → operandsAs (kindOf code) nd ≡ nd .a ∷ nd .b ∷ []) → TakesTwo code
     takes code p u o = record { plain = p; unused = u; operands = o }
 
 pub comparison-takes : (code : ℕ) → (code ≡ 12) ⊎ (code ≡ 15) → TakesTwo code
@@ -188,18 +135,6 @@ comparison-takes code = ⊎-elim (λ e. subst TakesTwo (sym e) ult) (λ e. subst
 
     eq : TakesTwo 15
     eq = record { plain = refl; unused = λ nd. refl; operands = λ nd. refl }
-
--- a code that is none of those below Add
-pub word-low : (code : ℕ) → 1 ≤ code → (code ≡ 1 → ⊥) → (code ≡ 2 → ⊥) → (code ≡ 3 → ⊥) → 4 ≤ code
-word-low code h p q o = omega arith
-
--- a code from Ult's to Or's that is none of those below And
-pub logic-code : (code : ℕ) → 12 ≤ code → code < 18 → ((code ≡ 12) ⊎ (code ≡ 15) → ⊥) → (code ≡ 13 → ⊥) → (code ≡ 14 → ⊥) → (code ≡ 16) ⊎ (code ≡ 17)
-logic-code code h l p q o = go (eqb code 16) refl (λ e. p (inl e)) (λ e. p (inr e))
-  where
-    go : (b : Bool) → eqb code 16 ≡ b → (code ≡ 12 → ⊥) → (code ≡ 15 → ⊥) → (code ≡ 16) ⊎ (code ≡ 17)
-    go true e u v = inl (eqb-true code 16 e)
-    go false e u v = let d = eqb-false code 16 e in inr (omega arith)
 
 pub ite-takes : TakesThree 14
 ite-takes = record { plain = refl; unused = λ nd. refl; operands = λ nd. refl }
@@ -216,7 +151,10 @@ logic-takes code = ⊎-elim (λ e. subst TakesTwo (sym e) and) (λ e. subst Take
 pub next-takes : TakesTwo 20
 next-takes = record { plain = refl; unused = λ nd. refl; operands = λ nd. refl }
 
--- ---- rule 3 where there is at most one operand
+-- ---- rule 3, where the code names no kind and where there is at most one operand
+pub rule3-unknown : (names : ℕ) (r : Row) → knownKind (r .code) ≡ false → false ≡ rule3 names r
+rule3-unknown names r h = rw h
+
 module _ (names : ℕ) (r : Row) where
   pub rule3-const : r .code ≡ 1 → (knownSort (r .sort) && ((eqb (r .b) 0 && eqb (r .c) 0) && eqb (r .name) 0)) ≡ rule3 names r
   rule3-const e = rw (e, ← unnamed names (r .name)) (simp and-true)
@@ -241,13 +179,13 @@ module _ (names : ℕ) (r : Row) where
   pub rule3-init : r .code ≡ 19 → eqb (r .b) 1 ≡ true → (knownSort (r .sort) && (eqb (r .c) 0 && leb (r .name) names)) ≡ rule3 names r
   rule3-init e f = rw (e, f, state-named (leb (r .name) names) (eqb (r .name) 0)) (simp and-true)
 
+-- ---- sorts, where the nodes of the table before the row are those of the words
 word-sorts : (code : ℕ) → (4 ≤ code) × (code < 12)
     → (t : List Node) (s : ℕ → ℕ) (nd : Node) → sortedAs t s (kindOf code) nd ≡ eqb (nd .sort) 2 ∷ eqb (s (nd .a)) 2 ∷ eqb (s (nd .b)) 2 ∷ []
 word-sorts =
     word-code (λ code. (t : List Node) (s : ℕ → ℕ) (nd : Node) → sortedAs t s (kindOf code) nd ≡ eqb (nd .sort) 2 ∷ eqb (s (nd .a)) 2 ∷ eqb (s (nd .b)) 2 ∷ [])
     (λ t s nd. refl) (λ t s nd. refl) (λ t s nd. refl) (λ t s nd. refl) (λ t s nd. refl) (λ t s nd. refl) (λ t s nd. refl) (λ t s nd. refl)
 
--- ---- sorts, where the nodes of the table before the row are those of the words
 pub sorted-const : (t : List Node) (r : Row) → r .code ≡ 1 → (not (eqb (r .sort) 3) && fits (r .sort) (r .a)) ≡ allTrue (sorted t (decode r))
 sorted-const t r e = rw e (simp and-true)
 

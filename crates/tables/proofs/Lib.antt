@@ -1,7 +1,8 @@
 pub mod SectionLaws
 pub mod NodeLaws
-pub mod FormLaws
 pub mod JudgeLaws
+pub mod ToldLaws
+pub mod FormLaws
 pub mod ListLaws
 pub mod NameLaws
 pub mod LabelLaws

@@ -2,7 +2,7 @@
 -- Assumes nothing.
 use Prim.Native.Nat.{ℕ, zero, suc, _-_, _^_, _<_, _≤_}
 use mathlib.Core.Path.{_≡_, refl, sym, ap, ap₂, _∙_}
-use mathlib.Core.Bool.{Bool, true, false, cond, _&&_, _||_, not, false≢true}
+use mathlib.Core.Bool.{Bool, true, false, cond, _&&_, false≢true}
 use mathlib.Core.Option.{none, some}
 use mathlib.Core.List.{_∷_}
 use native.Mathlib.Omega.{arith}
@@ -14,8 +14,8 @@ use Rattle.btor.specs.Sorts.{sortOf, widthOf, bitsOf, width}
 use Rattle.btor.specs.declared.node_type.NodeType.{NodeType}
 use Rattle.btor.specs.declared.node_type.CodedSort.{CodedSort}
 use Rattle.btor.specs.declared.node_type.CodedSort.the-variants.{Known, Unknown}
-use Rattle.rules.specs.Table.{Kind, Input, kinds, kindOf, kindCode, Row, fits}
-use Rattle.rules.specs.Check.{knownKind, rule3}
+use Rattle.rules.specs.Table.{Kind, Input, kinds, kindOf, kindCode, fits}
+use Rattle.rules.specs.Check.{knownKind}
 use Rattle.tables.specs.NodeAnswers.{kindIn}
 use Rattle.rules.proofs.Base.{code-of-kind}
 
@@ -66,10 +66,6 @@ names-none code h = go (knownKind code) refl h
     go true e h = let z : _≡_ {A = ℕ} 0 1 = cc in absurd (omega arith)
     go false e h = e
 
-pub not-either : (p q : Bool) → (not p && not q) ≡ not (p || q)
-not-either true q = refl
-not-either false q = refl
-
 -- ---- numbers that fit a sort
 below-ones : (w x : ℕ) → leb x (2 ^ w - 1) ≡ ltb x (2 ^ w)
 below-ones w x = go (ltb x (2 ^ w)) refl
@@ -89,7 +85,3 @@ fits-unknown sort x e = zero-only x ∙ sym (ap (λ (c : CodedSort). ltb x (2 ^ 
     zero-only : (x : ℕ) → eqb x 0 ≡ ltb x 1
     zero-only zero = refl
     zero-only (suc x) = ne-eqb (suc x) 0 (λ q. omega arith) ∙ sym (le-ltb (suc x) 1 (omega arith))
-
--- ---- rule 3, where the kind is unknown
-pub rule3-unknown : (names : ℕ) (r : Row) → knownKind (r .code) ≡ false → false ≡ rule3 names r
-rule3-unknown names r h = rw h

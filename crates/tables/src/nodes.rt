@@ -63,6 +63,7 @@ pub(crate) fn node_at(words: &[u64], sections: Sections, number: u64) -> Row
     }
 }
 
+// One node, by the code of its kind.
 fn judge_node(words: &[u64], sections: Sections, names: u64, node: usize) -> Judged
     requires { ⌜ IsCut (now words) sections ⌝ }
     requires { ⌜ node < sections .nodes .count ⌝ }
@@ -74,6 +75,7 @@ fn judge_node(words: &[u64], sections: Sections, names: u64, node: usize) -> Jud
         1 => judge_const(row, node),
         2 => judge_read(words, row, node),
         3 => judge_write(words, row, node),
+        4..=11 => judge_word(words, row, node),
         12 | 15 => judge_comparison(words, row, node),
         13 => judge_ext(words, row, node),
         14 => judge_ite(words, row, node),
@@ -83,7 +85,6 @@ fn judge_node(words: &[u64], sections: Sections, names: u64, node: usize) -> Jud
         20 => judge_next(words, row, node),
         21 => judge_input(row, names, node),
         22 => judge_bad(words, row, names, node),
-        4..=11 => judge_word(words, row, node),
         _ => Judged::Refused(Refusal::Malformed(node)),
     }
 }

@@ -6,7 +6,8 @@ use mathlib.Core.Bool.{Bool, not, _||_, _&&_}
 use Prim.Native.Nat.{ℕ}
 use lib.Dec.{eqb}
 use Rattle.tables.specs.Judging.{rowAt}
-use Rattle.tables.proofs.NodeLaws.{is-code, not-either}
+use Rattle.tables.proofs.NodeLaws.{is-code}
+use Rattle.tables.proofs.FormLaws.{not-either}
 use Rattle.tables.proofs.forms.serves.Statement.{statement}
 use Rattle.tables.proofs.forms.serves.Tie as tie
 

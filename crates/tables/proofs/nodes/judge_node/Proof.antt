@@ -4,9 +4,9 @@ use borrow.Author.Needs.{needs}
 use mathlib.Core.Path.{sym}
 use native.Mathlib.Omega.{arith}
 use Rattle.tables.specs.NodeAnswers.{rowIs}
-use Rattle.tables.proofs.NodeLaws.{not-known, rule3-unknown}
+use Rattle.tables.proofs.NodeLaws.{not-known}
 use Rattle.tables.proofs.JudgeLaws.{node-checked, fails-3}
-use Rattle.tables.proofs.FormLaws.{word-low, logic-code}
+use Rattle.tables.proofs.FormLaws.{word-low, logic-code, rule3-unknown}
 use Rattle.tables.proofs.nodes.judge_node.Statement.{statement}
 use Rattle.tables.proofs.nodes.judge_node.Tie as tie
 
@@ -62,152 +62,98 @@ returns : tie.Need-returns
 returns c =
     let at-row-at = c .before .before in
     let start = at-row-at .before .before in
-    let ws = start .args .words .now in
-    let s = start .args .sections in
-    let names = start .args .names in
-    let k = start .args .node in
-    node-checked ws s (start .pre .0) names k (start .pre .1) (rowIs (at-row-at .row-at .result)) (at-row-at .row-at .ensures) (λ t same. c .judge-const .ensures names t)
+    node-checked _ _ (start .pre .0) (start .args .names) _ (start .pre .1) _ (at-row-at .row-at .ensures) (λ t same. c .judge-const .ensures _ t)
 
 returns-2 : tie.Need-returns-2
 returns-2 c =
     let at-row-at = c .before .before in
     let start = at-row-at .before .before in
-    let ws = start .args .words .now in
-    let s = start .args .sections in
-    let names = start .args .names in
-    let k = start .args .node in
-    node-checked ws s (start .pre .0) names k (start .pre .1) (rowIs (at-row-at .row-at .result)) (at-row-at .row-at .ensures) (c .judge-read .ensures names)
+    node-checked _ _ (start .pre .0) (start .args .names) _ (start .pre .1) _ (at-row-at .row-at .ensures) (c .judge-read .ensures _)
 
 returns-3 : tie.Need-returns-3
 returns-3 c =
     let at-row-at = c .before .before in
     let start = at-row-at .before .before in
-    let ws = start .args .words .now in
-    let s = start .args .sections in
-    let names = start .args .names in
-    let k = start .args .node in
-    node-checked ws s (start .pre .0) names k (start .pre .1) (rowIs (at-row-at .row-at .result)) (at-row-at .row-at .ensures) (c .judge-write .ensures names)
+    node-checked _ _ (start .pre .0) (start .args .names) _ (start .pre .1) _ (at-row-at .row-at .ensures) (c .judge-write .ensures _)
 
 returns-4 : tie.Need-returns-4
 returns-4 c =
     let at-row-at = c .before .before in
     let start = at-row-at .before .before in
-    let ws = start .args .words .now in
-    let s = start .args .sections in
-    let names = start .args .names in
-    let k = start .args .node in
-    node-checked ws s (start .pre .0) names k (start .pre .1) (rowIs (at-row-at .row-at .result)) (at-row-at .row-at .ensures) (c .judge-comparison .ensures names)
+    node-checked _ _ (start .pre .0) (start .args .names) _ (start .pre .1) _ (at-row-at .row-at .ensures) (c .judge-comparison .ensures _)
 
 returns-5 : tie.Need-returns-5
 returns-5 c =
     let at-row-at = c .before .before in
     let start = at-row-at .before .before in
-    let ws = start .args .words .now in
-    let s = start .args .sections in
-    let names = start .args .names in
-    let k = start .args .node in
-    node-checked ws s (start .pre .0) names k (start .pre .1) (rowIs (at-row-at .row-at .result)) (at-row-at .row-at .ensures) (c .judge-ext .ensures names)
+    node-checked _ _ (start .pre .0) (start .args .names) _ (start .pre .1) _ (at-row-at .row-at .ensures) (c .judge-ext .ensures _)
 
 returns-6 : tie.Need-returns-6
 returns-6 c =
     let at-row-at = c .before .before in
     let start = at-row-at .before .before in
-    let ws = start .args .words .now in
-    let s = start .args .sections in
-    let names = start .args .names in
-    let k = start .args .node in
-    node-checked ws s (start .pre .0) names k (start .pre .1) (rowIs (at-row-at .row-at .result)) (at-row-at .row-at .ensures) (c .judge-ite .ensures names)
+    node-checked _ _ (start .pre .0) (start .args .names) _ (start .pre .1) _ (at-row-at .row-at .ensures) (c .judge-ite .ensures _)
 
 returns-7 : tie.Need-returns-7
 returns-7 c =
     let at-row-at = c .before .before in
     let start = at-row-at .before .before in
-    let ws = start .args .words .now in
-    let s = start .args .sections in
-    let names = start .args .names in
-    let k = start .args .node in
-    node-checked ws s (start .pre .0) names k (start .pre .1) (rowIs (at-row-at .row-at .result)) (at-row-at .row-at .ensures) (c .judge-not .ensures names)
+    node-checked _ _ (start .pre .0) (start .args .names) _ (start .pre .1) _ (at-row-at .row-at .ensures) (c .judge-not .ensures _)
 
 returns-8 : tie.Need-returns-8
 returns-8 c =
     let at-row-at = c .before .before in
     let start = at-row-at .before .before in
-    let ws = start .args .words .now in
-    let s = start .args .sections in
-    let names = start .args .names in
-    let k = start .args .node in
-    node-checked ws s (start .pre .0) names k (start .pre .1) (rowIs (at-row-at .row-at .result)) (at-row-at .row-at .ensures) (c .judge-state .ensures)
+    node-checked _ _ (start .pre .0) (start .args .names) _ (start .pre .1) _ (at-row-at .row-at .ensures) (c .judge-state .ensures)
 
 returns-9 : tie.Need-returns-9
 returns-9 c =
     let at-row-at = c .before .before in
     let start = at-row-at .before .before in
-    let ws = start .args .words .now in
-    let s = start .args .sections in
-    let names = start .args .names in
-    let k = start .args .node in
-    node-checked ws s (start .pre .0) names k (start .pre .1) (rowIs (at-row-at .row-at .result)) (at-row-at .row-at .ensures) (c .judge-next .ensures names)
+    node-checked _ _ (start .pre .0) (start .args .names) _ (start .pre .1) _ (at-row-at .row-at .ensures) (c .judge-next .ensures _)
 
 returns-10 : tie.Need-returns-10
 returns-10 c =
     let at-row-at = c .before .before in
     let start = at-row-at .before .before in
-    let ws = start .args .words .now in
-    let s = start .args .sections in
-    let names = start .args .names in
-    let k = start .args .node in
-    node-checked ws s (start .pre .0) names k (start .pre .1) (rowIs (at-row-at .row-at .result)) (at-row-at .row-at .ensures) (λ t same. c .judge-input .ensures t)
+    node-checked _ _ (start .pre .0) (start .args .names) _ (start .pre .1) _ (at-row-at .row-at .ensures) (λ t same. c .judge-input .ensures t)
 
 returns-11 : tie.Need-returns-11
 returns-11 c =
     let at-row-at = c .before .before in
     let start = at-row-at .before .before in
-    let ws = start .args .words .now in
-    let s = start .args .sections in
-    let names = start .args .names in
-    let k = start .args .node in
-    node-checked ws s (start .pre .0) names k (start .pre .1) (rowIs (at-row-at .row-at .result)) (at-row-at .row-at .ensures) (c .judge-bad .ensures)
+    node-checked _ _ (start .pre .0) (start .args .names) _ (start .pre .1) _ (at-row-at .row-at .ensures) (c .judge-bad .ensures)
 
 returns-12 : tie.Need-returns-12
 returns-12 c =
     let at-row-at = c .before .before .before .before in
     let start = at-row-at .before .before in
-    let ws = start .args .words .now in
-    let s = start .args .sections in
-    let names = start .args .names in
-    let k = start .args .node in
-    node-checked ws s (start .pre .0) names k (start .pre .1) (rowIs (at-row-at .row-at .result)) (at-row-at .row-at .ensures) (c .judge-word .ensures names)
+    node-checked _ _ (start .pre .0) (start .args .names) _ (start .pre .1) _ (at-row-at .row-at .ensures) (c .judge-word .ensures _)
 
 returns-13 : tie.Need-returns-13
 returns-13 c =
     let at-row-at = c .before .before .before .before .before in
     let start = at-row-at .before .before in
-    let ws = start .args .words .now in
-    let s = start .args .sections in
-    let names = start .args .names in
-    let k = start .args .node in
-    node-checked ws s (start .pre .0) names k (start .pre .1) (rowIs (at-row-at .row-at .result)) (at-row-at .row-at .ensures) (c .judge-logic .ensures names)
+    node-checked _ _ (start .pre .0) (start .args .names) _ (start .pre .1) _ (at-row-at .row-at .ensures) (c .judge-logic .ensures _)
 
 returns-14 : tie.Need-returns-14
 returns-14 c =
     let at-row-at = c .before .before in
     let start = at-row-at .before .before in
-    let ws = start .args .words .now in
-    let s = start .args .sections in
+    let row = rowIs (at-row-at .row-at .result) in
     let names = start .args .names in
-    let k = start .args .node in
-    node-checked ws s (start .pre .0) names k (start .pre .1) (rowIs (at-row-at .row-at .result)) (at-row-at .row-at .ensures) (λ t same. sym (fails-3 names t k (rowIs (at-row-at .row-at .result)) (sym (rule3-unknown names (rowIs (at-row-at .row-at .result)) (not-known (at-row-at .row-at .result .code) (λ h. omega (arith, h .0, c .if1 .taken, c .before .match .rest .0 .0 .0 .0 .0 .0 .0 .0 .1, c .before .match .rest .0 .0 .0 .0 .0 .0 .0 .0 .0 .1, c .before .match .rest .0 .0 .0 .0 .0 .0 .0 .0 .0 .0 .1)))))))
+    let unknown = not-known (row .code) (λ h. omega (arith, h .0, c .if1 .taken, c .before .match .rest .0 .0 .0 .0 .0 .0 .0 .0 .1, c .before .match .rest .0 .0 .0 .0 .0 .0 .0 .0 .0 .1, c .before .match .rest .0 .0 .0 .0 .0 .0 .0 .0 .0 .0 .1)) in
+    node-checked _ _ (start .pre .0) (start .args .names) _ (start .pre .1) _ (at-row-at .row-at .ensures) (λ t same. sym (fails-3 names t (start .args .node) row (sym (rule3-unknown names row unknown))))
 
 returns-15 : tie.Need-returns-15
 returns-15 c =
     let at-match = c .before .before .before in
     let at-row-at = at-match .before in
     let start = at-row-at .before .before in
-    let ws = start .args .words .now in
-    let s = start .args .sections in
+    let row = rowIs (at-row-at .row-at .result) in
     let names = start .args .names in
-    let k = start .args .node in
-    node-checked ws s (start .pre .0) names k (start .pre .1) (rowIs (at-row-at .row-at .result)) (at-row-at .row-at .ensures) (λ t same. sym (fails-3 names t k (rowIs (at-row-at .row-at .result)) (sym (rule3-unknown names (rowIs (at-row-at .row-at .result)) (not-known (at-row-at .row-at .result .code) (λ h. omega (arith, h .1, c .if3 .left, at-match .match .rest .1, at-match .match .rest .0 .1, at-match .match .rest .0 .0 .1, at-match .match .rest .0 .0 .0 .1, at-match .match .rest .0 .0 .0 .0 .1)))))))
+    let unknown = not-known (row .code) (λ h. omega (arith, h .1, c .if3 .left, at-match .match .rest .1, at-match .match .rest .0 .1, at-match .match .rest .0 .0 .1, at-match .match .rest .0 .0 .0 .1, at-match .match .rest .0 .0 .0 .0 .1)) in
+    node-checked _ _ (start .pre .0) (start .args .names) _ (start .pre .1) _ (at-row-at .row-at .ensures) (λ t same. sym (fails-3 names t (start .args .node) row (sym (rule3-unknown names row unknown))))
 
 pub judge-node-spec : {M : Type 1} → statement M
 judge-node-spec =

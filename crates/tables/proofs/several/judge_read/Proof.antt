@@ -1,13 +1,13 @@
--- `judge_read` is the rules for a Read.
+-- `judge_read` tells rules 3, 4 and 5 of a Read: where 3 and 4 hold, the operands are nodes before it, and so those of the words.
 -- Assumes nothing.
 use borrow.Author.Needs.{needs}
 use mathlib.Core.Path.{_≡_, sym, _∙_, subst}
-use mathlib.Core.List.{[], _∷_}
 use Rattle.rules.specs.Lists.{allTrue}
 use Rattle.rules.specs.Table.{decode}
 use Rattle.rules.specs.Check.{sorted}
 use Rattle.tables.specs.NodeAnswers.{rowIs}
-use Rattle.tables.proofs.FormLaws.{TakesTwo, read-takes, rule3-takes, sorted-read, two-low, room, told-early, told-late}
+use Rattle.tables.proofs.ToldLaws.{two-low, two-room}
+use Rattle.tables.proofs.FormLaws.{TakesTwo, read-takes, sorted-read, takes-early, takes-late}
 use Rattle.tables.proofs.several.judge_read.Statement.{statement}
 use Rattle.tables.proofs.several.judge_read.Tie as tie
 
@@ -32,7 +32,9 @@ returns c =
     let row = start .args .row in
     let k = start .args .node in
     let takes : TakesTwo (row .code) = subst TakesTwo (sym (start .pre .1)) read-takes in
-    λ names t same. c .told .ensures ∙ told-early names t k (rowIs row) (row .a ∷ row .b ∷ []) (takes .operands (decode (rowIs row))) (at-two-formed .two-formed .ensures ∙ rule3-takes names (rowIs row) takes) (at-two-before .two-before .ensures) (at-all .all .ensures) (c .before .if1 .taken)
+    λ names t same.
+    c .told .ensures
+    ∙ takes-early names t k (rowIs row) takes (at-two-formed .two-formed .ensures) (at-two-before .two-before .ensures) (at-all .all .ensures) (c .before .if1 .taken)
 
 sort-at-requires : tie.Need-sort-at-requires
 sort-at-requires c κs =
@@ -40,9 +42,7 @@ sort-at-requires c κs =
     let at-two-formed = at-two-before .before in
     let start = at-two-formed .before .before in
     let row = start .args .row in
-    let k = start .args .node in
-    let low = two-low k (row .a) (row .b) (at-two-formed .two-formed .result) (at-two-before .two-before .ensures) (c .before .all .ensures) (c .if1 .left) in
-    room (start .args .words .now) k (row .a) (start .pre .0) (low .0)
+    two-room (start .args .words .now) (start .args .node) (row .a) (row .b) (at-two-formed .two-formed .result) (start .pre .0) (at-two-before .two-before .ensures) (c .before .all .ensures) (c .if1 .left) .0
 
 sort-at-requires-2 : tie.Need-sort-at-requires-2
 sort-at-requires-2 c κs =
@@ -51,9 +51,7 @@ sort-at-requires-2 c κs =
     let at-two-formed = at-two-before .before in
     let start = at-two-formed .before .before in
     let row = start .args .row in
-    let k = start .args .node in
-    let low = two-low k (row .a) (row .b) (at-two-formed .two-formed .result) (at-two-before .two-before .ensures) (at-all .all .ensures) (c .before .if1 .left) in
-    room (start .args .words .now) k (row .b) (start .pre .0) (low .1)
+    two-room (start .args .words .now) (start .args .node) (row .a) (row .b) (at-two-formed .two-formed .result) (start .pre .0) (at-two-before .two-before .ensures) (at-all .all .ensures) (c .before .if1 .left) .1
 
 all-requires-2 : tie.Need-all-requires-2
 all-requires-2 c κs = search needs
@@ -69,9 +67,7 @@ two-serve-requires c κs =
     let at-two-formed = at-two-before .before in
     let start = at-two-formed .before .before in
     let row = start .args .row in
-    let k = start .args .node in
-    let low = two-low k (row .a) (row .b) (at-two-formed .two-formed .result) (at-two-before .two-before .ensures) (at-all .all .ensures) (at-if1 .if1 .left) in
-    (room (start .args .words .now) k (row .a) (start .pre .0) (low .0), room (start .args .words .now) k (row .b) (start .pre .0) (low .1))
+    two-room (start .args .words .now) (start .args .node) (row .a) (row .b) (at-two-formed .two-formed .result) (start .pre .0) (at-two-before .two-before .ensures) (at-all .all .ensures) (at-if1 .if1 .left)
 
 all-requires-4 : tie.Need-all-requires-4
 all-requires-4 c κs = search needs
@@ -97,8 +93,13 @@ returns-2 c =
     let ws = start .args .words .now in
     let low = two-low k (row .a) (row .b) (at-two-formed .two-formed .result) (at-two-before .two-before .ensures) (at-all .all .ensures) (at-if1 .if1 .left) in
     λ names t same.
-    let fit : at-all3 .all3 .result ≡ allTrue (sorted t (decode (rowIs row))) = rw (at-all3 .all3 .ensures, at-all2 .all2 .ensures, at-sort-at .sort-at .ensures, at-sort-at2 .sort-at2 .ensures) (sorted-read k ws t (rowIs row) same (low .0) (low .1) (start .pre .1)) in
-    c .told2 .ensures ∙ told-late names t k (rowIs row) (row .a ∷ row .b ∷ []) (takes .operands (decode (rowIs row))) (at-two-formed .two-formed .ensures ∙ rule3-takes names (rowIs row) takes) (at-two-before .two-before .ensures) (at-all .all .ensures) ws same (at-if1 .if1 .left) (at-two-serve .two-serve .ensures) fit (c .before .all4 .ensures)
+    let fit : at-all3 .all3 .result ≡ allTrue (sorted t (decode (rowIs row))) =
+    rw (at-all3 .all3 .ensures, at-all2 .all2 .ensures, at-sort-at .sort-at .ensures, at-sort-at2 .sort-at2 .ensures)
+    (sorted-read k ws t (rowIs row) same (low .0) (low .1) (start .pre .1))
+    in
+    c .told2 .ensures
+    ∙ takes-late names t k (rowIs row) takes (at-two-formed .two-formed .ensures) (at-two-before .two-before .ensures) (at-all .all .ensures)
+    ws same (at-if1 .if1 .left) (at-two-serve .two-serve .ensures) fit (c .before .all4 .ensures)
 
 pub judge-read-spec : {M : Type 1} → statement M
 judge-read-spec =

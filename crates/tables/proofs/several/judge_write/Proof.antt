@@ -1,13 +1,13 @@
--- `judge_write` is the rules for a Write.
+-- `judge_write` tells rules 3, 4 and 5 of a Write: where 3 and 4 hold, the operands are nodes before it, and so those of the words.
 -- Assumes nothing.
 use borrow.Author.Needs.{needs}
 use mathlib.Core.Path.{_≡_, sym, _∙_, subst}
-use mathlib.Core.List.{[], _∷_}
 use Rattle.rules.specs.Lists.{allTrue}
 use Rattle.rules.specs.Table.{decode}
 use Rattle.rules.specs.Check.{sorted}
 use Rattle.tables.specs.NodeAnswers.{rowIs}
-use Rattle.tables.proofs.FormLaws.{TakesThree, write-takes, rule3-takes, sorted-write, three-low, room, told-early, told-late}
+use Rattle.tables.proofs.ToldLaws.{three-low, three-room}
+use Rattle.tables.proofs.FormLaws.{TakesThree, write-takes, sorted-write, takes-early, takes-late}
 use Rattle.tables.proofs.several.judge_write.Statement.{statement}
 use Rattle.tables.proofs.several.judge_write.Tie as tie
 
@@ -32,7 +32,9 @@ returns c =
     let row = start .args .row in
     let k = start .args .node in
     let takes : TakesThree (row .code) = subst TakesThree (sym (start .pre .1)) write-takes in
-    λ names t same. c .told .ensures ∙ told-early names t k (rowIs row) (row .a ∷ row .b ∷ row .c ∷ []) (takes .operands (decode (rowIs row))) (at-three-formed .three-formed .ensures ∙ rule3-takes names (rowIs row) takes) (at-three-before .three-before .ensures) (at-all .all .ensures) (c .before .if1 .taken)
+    λ names t same.
+    c .told .ensures
+    ∙ takes-early names t k (rowIs row) takes (at-three-formed .three-formed .ensures) (at-three-before .three-before .ensures) (at-all .all .ensures) (c .before .if1 .taken)
 
 sort-at-requires : tie.Need-sort-at-requires
 sort-at-requires c κs =
@@ -40,9 +42,7 @@ sort-at-requires c κs =
     let at-three-formed = at-three-before .before in
     let start = at-three-formed .before .before in
     let row = start .args .row in
-    let k = start .args .node in
-    let low = three-low k (row .a) (row .b) (row .c) (at-three-formed .three-formed .result) (at-three-before .three-before .ensures) (c .before .all .ensures) (c .if1 .left) in
-    room (start .args .words .now) k (row .a) (start .pre .0) (low .0)
+    three-room (start .args .words .now) (start .args .node) (row .a) (row .b) (row .c) (at-three-formed .three-formed .result) (start .pre .0) (at-three-before .three-before .ensures) (c .before .all .ensures) (c .if1 .left) .0
 
 sort-at-requires-2 : tie.Need-sort-at-requires-2
 sort-at-requires-2 c κs =
@@ -51,9 +51,7 @@ sort-at-requires-2 c κs =
     let at-three-formed = at-three-before .before in
     let start = at-three-formed .before .before in
     let row = start .args .row in
-    let k = start .args .node in
-    let low = three-low k (row .a) (row .b) (row .c) (at-three-formed .three-formed .result) (at-three-before .three-before .ensures) (at-all .all .ensures) (c .before .if1 .left) in
-    room (start .args .words .now) k (row .b) (start .pre .0) (low .1)
+    three-room (start .args .words .now) (start .args .node) (row .a) (row .b) (row .c) (at-three-formed .three-formed .result) (start .pre .0) (at-three-before .three-before .ensures) (at-all .all .ensures) (c .before .if1 .left) .1
 
 sort-at-requires-3 : tie.Need-sort-at-requires-3
 sort-at-requires-3 c κs =
@@ -63,9 +61,7 @@ sort-at-requires-3 c κs =
     let at-three-formed = at-three-before .before in
     let start = at-three-formed .before .before in
     let row = start .args .row in
-    let k = start .args .node in
-    let low = three-low k (row .a) (row .b) (row .c) (at-three-formed .three-formed .result) (at-three-before .three-before .ensures) (at-all .all .ensures) (at-if1 .if1 .left) in
-    room (start .args .words .now) k (row .c) (start .pre .0) (low .2)
+    three-room (start .args .words .now) (start .args .node) (row .a) (row .b) (row .c) (at-three-formed .three-formed .result) (start .pre .0) (at-three-before .three-before .ensures) (at-all .all .ensures) (at-if1 .if1 .left) .2
 
 all-requires-2 : tie.Need-all-requires-2
 all-requires-2 c κs = search needs
@@ -84,9 +80,7 @@ three-serve-requires c κs =
     let at-three-formed = at-three-before .before in
     let start = at-three-formed .before .before in
     let row = start .args .row in
-    let k = start .args .node in
-    let low = three-low k (row .a) (row .b) (row .c) (at-three-formed .three-formed .result) (at-three-before .three-before .ensures) (at-all .all .ensures) (at-if1 .if1 .left) in
-    (room (start .args .words .now) k (row .a) (start .pre .0) (low .0), room (start .args .words .now) k (row .b) (start .pre .0) (low .1), room (start .args .words .now) k (row .c) (start .pre .0) (low .2))
+    three-room (start .args .words .now) (start .args .node) (row .a) (row .b) (row .c) (at-three-formed .three-formed .result) (start .pre .0) (at-three-before .three-before .ensures) (at-all .all .ensures) (at-if1 .if1 .left)
 
 all-requires-5 : tie.Need-all-requires-5
 all-requires-5 c κs = search needs
@@ -114,8 +108,13 @@ returns-2 c =
     let ws = start .args .words .now in
     let low = three-low k (row .a) (row .b) (row .c) (at-three-formed .three-formed .result) (at-three-before .three-before .ensures) (at-all .all .ensures) (at-if1 .if1 .left) in
     λ names t same.
-    let fit : at-all4 .all4 .result ≡ allTrue (sorted t (decode (rowIs row))) = rw (at-all4 .all4 .ensures, at-all3 .all3 .ensures, at-all2 .all2 .ensures, at-sort-at .sort-at .ensures, at-sort-at2 .sort-at2 .ensures, at-sort-at3 .sort-at3 .ensures) (sorted-write k ws t (rowIs row) same (low .0) (low .1) (low .2) (start .pre .1)) in
-    c .told2 .ensures ∙ told-late names t k (rowIs row) (row .a ∷ row .b ∷ row .c ∷ []) (takes .operands (decode (rowIs row))) (at-three-formed .three-formed .ensures ∙ rule3-takes names (rowIs row) takes) (at-three-before .three-before .ensures) (at-all .all .ensures) ws same (at-if1 .if1 .left) (at-three-serve .three-serve .ensures) fit (c .before .all5 .ensures)
+    let fit : at-all4 .all4 .result ≡ allTrue (sorted t (decode (rowIs row))) =
+    rw (at-all4 .all4 .ensures, at-all3 .all3 .ensures, at-all2 .all2 .ensures, at-sort-at .sort-at .ensures, at-sort-at2 .sort-at2 .ensures, at-sort-at3 .sort-at3 .ensures)
+    (sorted-write k ws t (rowIs row) same (low .0) (low .1) (low .2) (start .pre .1))
+    in
+    c .told2 .ensures
+    ∙ takes-late names t k (rowIs row) takes (at-three-formed .three-formed .ensures) (at-three-before .three-before .ensures) (at-all .all .ensures)
+    ws same (at-if1 .if1 .left) (at-three-serve .three-serve .ensures) fit (c .before .all5 .ensures)
 
 pub judge-write-spec : {M : Type 1} → statement M
 judge-write-spec =

@@ -1,9 +1,9 @@
--- `three_before` is rule 4.
+-- `three_before` is rule 4, operand by operand.
 -- Assumes nothing.
 use borrow.Author.Needs.{needs}
 use mathlib.Core.Path.{ap, _∙_}
 use mathlib.Core.Bool.{Bool, _&&_}
-use Rattle.tables.proofs.FormLaws.{every-third}
+use Rattle.tables.proofs.ToldLaws.{every-third}
 use lib.Dec.{ltb}
 use Rattle.tables.proofs.several.three_before.Statement.{statement}
 use Rattle.tables.proofs.several.three_before.Tie as tie

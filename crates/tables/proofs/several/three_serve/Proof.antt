@@ -3,7 +3,7 @@
 use borrow.Author.Needs.{needs}
 use mathlib.Core.Path.{ap₂, _∙_}
 use mathlib.Core.Bool.{_&&_}
-use Rattle.tables.proofs.FormLaws.{every-third}
+use Rattle.tables.proofs.ToldLaws.{every-third}
 use Rattle.rules.specs.Table.{decode}
 use Rattle.rules.specs.Check.{mayServe}
 use Rattle.tables.specs.Judging.{rowAt}

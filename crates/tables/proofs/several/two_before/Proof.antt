@@ -1,4 +1,4 @@
--- `two_before` is rule 4.
+-- `two_before` is rule 4, operand by operand.
 -- Assumes nothing.
 use borrow.Author.Needs.{needs}
 use mathlib.Core.Bool.{and-true}

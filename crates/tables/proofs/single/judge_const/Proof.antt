@@ -1,4 +1,4 @@
--- `judge_const` is the rules for a Const.
+-- `judge_const` tells rules 3 and 5 of a Const, test by test.
 -- Assumes nothing.
 use borrow.Author.Needs.{needs}
 use mathlib.Core.Path.{_≡_, _∙_}
@@ -6,7 +6,8 @@ use Rattle.rules.specs.Lists.{allTrue}
 use Rattle.rules.specs.Table.{decode}
 use Rattle.rules.specs.Check.{sorted, rule3}
 use Rattle.tables.specs.NodeAnswers.{rowIs}
-use Rattle.tables.proofs.FormLaws.{rule3-const, sorted-const, told-alone}
+use Rattle.tables.proofs.ToldLaws.{told-alone}
+use Rattle.tables.proofs.FormLaws.{rule3-const, sorted-const}
 use Rattle.tables.proofs.single.judge_const.Statement.{statement}
 use Rattle.tables.proofs.single.judge_const.Tie as tie
 
@@ -41,8 +42,14 @@ returns c =
     let start = at-all .before .before .before in
     let row = start .args .row in
     λ names t.
-    let three : at-all3 .all3 .result ≡ rule3 names (rowIs row) = rw (at-all3 .all3 .ensures, at-all2 .all2 .ensures, at-all .all .ensures, at-known-sort .known-sort .ensures) (rule3-const names (rowIs row) (start .pre)) in
-    let fit : c .before .all4 .result ≡ allTrue (sorted t (decode (rowIs row))) = rw (c .before .all4 .ensures, at-fits-sort .fits-sort .ensures) (sorted-const t (rowIs row) (start .pre)) in
+    let three : at-all3 .all3 .result ≡ rule3 names (rowIs row) =
+    rw (at-all3 .all3 .ensures, at-all2 .all2 .ensures, at-all .all .ensures, at-known-sort .known-sort .ensures)
+    (rule3-const names (rowIs row) (start .pre))
+    in
+    let fit : c .before .all4 .result ≡ allTrue (sorted t (decode (rowIs row))) =
+    rw (c .before .all4 .ensures, at-fits-sort .fits-sort .ensures)
+    (sorted-const t (rowIs row) (start .pre))
+    in
     c .told .ensures ∙ told-alone names t (start .args .node) (rowIs row) (rw (start .pre)) three fit
 
 pub judge-const-spec : {M : Type 1} → statement M

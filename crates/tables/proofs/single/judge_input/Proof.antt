@@ -1,4 +1,4 @@
--- `judge_input` is the rules for an Input.
+-- `judge_input` tells rule 3 of an Input, test by test.
 -- Assumes nothing.
 use borrow.Author.Needs.{needs}
 use mathlib.Core.Path.{_≡_, _∙_}
@@ -7,7 +7,8 @@ use Rattle.rules.specs.Lists.{allTrue}
 use Rattle.rules.specs.Table.{decode}
 use Rattle.rules.specs.Check.{sorted, rule3}
 use Rattle.tables.specs.NodeAnswers.{rowIs}
-use Rattle.tables.proofs.FormLaws.{rule3-input, told-alone}
+use Rattle.tables.proofs.ToldLaws.{told-alone}
+use Rattle.tables.proofs.FormLaws.{rule3-input}
 use Rattle.tables.proofs.single.judge_input.Statement.{statement}
 use Rattle.tables.proofs.single.judge_input.Tie as tie
 
@@ -42,7 +43,10 @@ returns c =
     let start = at-all .before .before .before .before in
     let row = start .args .row in
     let names = start .args .names in
-    let three : c .before .all5 .result ≡ rule3 names (rowIs row) = rw (c .before .all5 .ensures, at-all4 .all4 .ensures, at-all3 .all3 .ensures, at-all2 .all2 .ensures, at-all .all .ensures, at-known-sort .known-sort .ensures) (rule3-input names (rowIs row) (start .pre)) in
+    let three : c .before .all5 .result ≡ rule3 names (rowIs row) =
+    rw (c .before .all5 .ensures, at-all4 .all4 .ensures, at-all3 .all3 .ensures, at-all2 .all2 .ensures, at-all .all .ensures, at-known-sort .known-sort .ensures)
+    (rule3-input names (rowIs row) (start .pre))
+    in
     λ t.
     let fit : true ≡ allTrue (sorted t (decode (rowIs row))) = rw (start .pre) in
     c .told .ensures ∙ told-alone names t (start .args .node) (rowIs row) (rw (start .pre)) three fit

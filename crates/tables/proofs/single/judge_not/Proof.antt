@@ -1,4 +1,4 @@
--- `judge_not` is the rules for a Not.
+-- `judge_not` tells rules 3, 4 and 5 of a Not: where 3 and 4 hold, the operand is a node before it, and so one of the words.
 -- Assumes nothing.
 use borrow.Author.Needs.{needs}
 use mathlib.Core.Path.{_≡_, sym, _∙_}
@@ -9,7 +9,8 @@ use Rattle.rules.specs.Lists.{allTrue}
 use Rattle.rules.specs.Table.{decode, operands}
 use Rattle.rules.specs.Check.{sorted, rule3}
 use Rattle.tables.specs.NodeAnswers.{rowIs}
-use Rattle.tables.proofs.FormLaws.{rule3-not, sorted-not, one-low, room, told-early, told-late}
+use Rattle.tables.proofs.ToldLaws.{one-low, one-room, told-early, told-late}
+use Rattle.tables.proofs.FormLaws.{rule3-not, sorted-not}
 use Rattle.tables.proofs.single.judge_not.Statement.{statement}
 use Rattle.tables.proofs.single.judge_not.Tie as tie
 
@@ -43,16 +44,19 @@ returns c =
     let k = start .args .node in
     let one : operands (decode (rowIs row)) ≡ row .a ∷ [] = rw (start .pre .1) in
     λ names t same.
-    let three : at-all3 .all3 .result ≡ rule3 names (rowIs row) = rw (at-all3 .all3 .ensures, at-all2 .all2 .ensures, at-all .all .ensures, at-known-sort .known-sort .ensures) (rule3-not names (rowIs row) (start .pre .1)) in
-    c .told .ensures ∙ told-early names t k (rowIs row) (row .a ∷ []) one three (sym (and-true (ltb (row .a) k))) (at-all4 .all4 .ensures) (c .before .if1 .taken)
+    let three : at-all3 .all3 .result ≡ rule3 names (rowIs row) =
+    rw (at-all3 .all3 .ensures, at-all2 .all2 .ensures, at-all .all .ensures, at-known-sort .known-sort .ensures)
+    (rule3-not names (rowIs row) (start .pre .1))
+    in
+    c .told .ensures
+    ∙ told-early names t k (rowIs row) (row .a ∷ []) one three (sym (and-true (ltb (row .a) k))) (at-all4 .all4 .ensures) (c .before .if1 .taken)
 
 sort-at-requires : tie.Need-sort-at-requires
 sort-at-requires c κs =
     let at-all3 = c .before .before .before in
     let start = at-all3 .before .before .before .before .before .before .before .before in
     let row = start .args .row in
-    let k = start .args .node in
-    room (start .args .words .now) k (row .a) (start .pre .0) (one-low k (row .a) (at-all3 .all3 .result) (c .before .all4 .ensures) (c .if1 .left))
+    one-room (start .args .words .now) (start .args .node) (row .a) (at-all3 .all3 .result) (start .pre .0) (c .before .all4 .ensures) (c .if1 .left)
 
 all-requires-5 : tie.Need-all-requires-5
 all-requires-5 c κs = search needs
@@ -64,8 +68,7 @@ serves-requires c κs =
     let at-all3 = at-all4 .before .before in
     let start = at-all3 .before .before .before .before .before .before .before .before in
     let row = start .args .row in
-    let k = start .args .node in
-    room (start .args .words .now) k (row .a) (start .pre .0) (one-low k (row .a) (at-all3 .all3 .result) (at-all4 .all4 .ensures) (at-if1 .if1 .left))
+    one-room (start .args .words .now) (start .args .node) (row .a) (at-all3 .all3 .result) (start .pre .0) (at-all4 .all4 .ensures) (at-if1 .if1 .left)
 
 all-requires-6 : tie.Need-all-requires-6
 all-requires-6 c κs = search needs
@@ -89,10 +92,19 @@ returns-2 c =
     let k = start .args .node in
     let one : operands (decode (rowIs row)) ≡ row .a ∷ [] = rw (start .pre .1) in
     let ws = start .args .words .now in
+    let low = one-low k (row .a) (at-all3 .all3 .result) (at-all4 .all4 .ensures) (at-if1 .if1 .left) in
     λ names t same.
-    let three : at-all3 .all3 .result ≡ rule3 names (rowIs row) = rw (at-all3 .all3 .ensures, at-all2 .all2 .ensures, at-all .all .ensures, at-known-sort .known-sort .ensures) (rule3-not names (rowIs row) (start .pre .1)) in
-    let fit : at-all5 .all5 .result ≡ allTrue (sorted t (decode (rowIs row))) = rw (at-all5 .all5 .ensures, at-sort-at .sort-at .ensures) (sorted-not k ws t (rowIs row) same (one-low k (row .a) (at-all3 .all3 .result) (at-all4 .all4 .ensures) (at-if1 .if1 .left)) (start .pre .1)) in
-    c .told2 .ensures ∙ told-late names t k (rowIs row) (row .a ∷ []) one three (sym (and-true (ltb (row .a) k))) (at-all4 .all4 .ensures) ws same (at-if1 .if1 .left) (at-serves .serves .ensures ∙ sym (and-true _)) fit (c .before .all6 .ensures)
+    let three : at-all3 .all3 .result ≡ rule3 names (rowIs row) =
+    rw (at-all3 .all3 .ensures, at-all2 .all2 .ensures, at-all .all .ensures, at-known-sort .known-sort .ensures)
+    (rule3-not names (rowIs row) (start .pre .1))
+    in
+    let fit : at-all5 .all5 .result ≡ allTrue (sorted t (decode (rowIs row))) =
+    rw (at-all5 .all5 .ensures, at-sort-at .sort-at .ensures)
+    (sorted-not k ws t (rowIs row) same low (start .pre .1))
+    in
+    c .told2 .ensures
+    ∙ told-late names t k (rowIs row) (row .a ∷ []) one three (sym (and-true (ltb (row .a) k))) (at-all4 .all4 .ensures)
+    ws same (at-if1 .if1 .left) (at-serves .serves .ensures ∙ sym (and-true _)) fit (c .before .all6 .ensures)
 
 pub judge-not-spec : {M : Type 1} → statement M
 judge-not-spec =
