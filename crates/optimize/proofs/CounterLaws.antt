@@ -3,10 +3,11 @@
 use Prim.Native.Nat.{ℕ, zero, suc, _<_}
 use mathlib.Core.Path.{_≡_, refl, ap, sym, _∙_, subst}
 use mathlib.Core.Bool.{Bool, true, false, not}
-use mathlib.Core.List.{List}
+use mathlib.Core.List.{List, [], _∷_}
 use native.Mathlib.Omega.{arith}
-use lib.ListN.{List·getD-eq-default}
+use lib.ListN.{getD, List·getD-eq-default}
 use lib.Dec.{eqb}
+use Rattle.rules.specs.Refusal as rules
 use Rattle.rules.specs.Refusal.{Out, refused}
 use Rattle.rules.specs.Table.{Node}
 use Rattle.rules.specs.Walk.{St, Held, setRow}
@@ -18,7 +19,7 @@ use Rattle.optimize.specs.declared.walk.Visited.{Visited}
 use Rattle.optimize.specs.View.{view, outcomeOf, Meets}
 use Rattle.optimize.specs.Folding.{Falls}
 use Rattle.optimize.specs.Laid.{Room, Visits}
-use Rattle.optimize.specs.Counters.{walkIn, refusedIn, roomAt, refusalsAt, refusalBy, refusalIn, answerIn}
+use Rattle.optimize.specs.Counters.{walkIn, refusedIn, withWalk, withRefusal, roomAt, refusalsAt, refusalBy, refusalIn, answerIn}
 
 -- ---- answers
 module _ (b : Bool) (x : ℕ) (C : List ℕ) (r : b ≡ refusedIn C) where
@@ -72,10 +73,6 @@ found-again Refusal.ScratchRoom = refl
 found-again (Refusal.AlwaysTrue s p) = refl
 found-again (Refusal.Satisfiable s p) = refl
 
-pub put-refusal : (z : Refusal) (n s p : ℕ) → n ≡ refusalOf z .reason → s ≡ refusalOf z .section → p ≡ refusalOf z .position
-    → (not (eqb n 0) ≡ true) × (refusalOf (refusalBy n s p) ≡ refusalOf z)
-put-refusal z n s p en es ep = rw (en, es, ep) (ap not (numbered z), found-again z)
-
 pub room-is : (p : ℕ) (b : Bool) → eqb p 0 ≡ b → elim b [ true ↦ Refusal.ResultRoom | false ↦ Refusal.ScratchRoom ] ≡ roomAt p
 room-is p b e = sym (ap (λ t. elim t [ true ↦ Refusal.ResultRoom | false ↦ Refusal.ScratchRoom ]) e)
 
@@ -85,23 +82,41 @@ unfolding refusalBy
 refusal-none s p zero h = refl
 refusal-none s p (suc n) h = inside-or-past _ (suc n) 15 (λ l. absurd (h (omega arith, l))) (λ l. List·getD-eq-default (refusalsAt s p) Refusal.Mode {n = suc n} l)
 
--- ---- what was answered, kept in the counters
-module _ (h : List Held) (g inputs replies R S : List ℕ) (x : ℕ) (C : List ℕ) (v : Visited) where
-  pub kept-done : (w : Walk) → v ≡ Visited.Done w x → walkIn C ≡ w → refusedIn C ≡ false → outcomeOf h g inputs replies (answerIn x C) R S ≡ outcomeOf h g inputs replies v R S
-  kept-done w e q r = ap (λ z. outcomeOf h g inputs replies z R S) (went false x C (sym r) refl ∙ ap (λ z. Visited.Done z x) q ∙ sym e)
+-- ---- a walk or a refusal put into the counters
+pub refusal-words : (C : List ℕ) (z : rules.Refusal) (n s p : ℕ) → n ≡ z .reason → s ≡ z .section → p ≡ z .position
+    → getD C 0 0 ∷ getD C 1 0 ∷ getD C 2 0 ∷ getD C 3 0 ∷ getD C 4 0 ∷ getD C 5 0 ∷ n ∷ s ∷ p ∷ [] ≡ withRefusal z C
+refusal-words C z n s p en es ep = rw (en, es, ep)
 
-  pub kept-refused : (z : Refusal) → v ≡ Visited.Refused z → refusedIn C ≡ true → refusalOf (refusalIn C) ≡ refusalOf z
-      → outcomeOf h g inputs replies (answerIn x C) R S ≡ outcomeOf h g inputs replies v R S
-  unfolding outcomeOf
-  kept-refused z e r q =
-      ap (λ y. outcomeOf h g inputs replies y R S) (stopped true x C (sym r) refl)
-      ∙ ap refused q
-      ∙ sym (ap (λ y. outcomeOf h g inputs replies y R S) e)
+module _ (w : Walk) (C C′ : List ℕ) (e : C′ ≡ withWalk w C) where
+  pub walk-put : walkIn C′ ≡ w
+  walk-put = ap walkIn e
 
-pub refused-in : (g inputs replies R S : List ℕ) (x : ℕ) (C : List ℕ) (z : Refusal) (h : List Held) → refusedIn C ≡ true → refusalOf (refusalIn C) ≡ refusalOf z
-    → Meets g inputs replies (answerIn x C) R S (refused (refusalOf z))
+  pub still-goes : refusedIn C ≡ false → refusedIn C′ ≡ false
+  still-goes r = ap refusedIn e ∙ r
+
+pub view-put : (h : List Held) (g inputs replies R S : List ℕ) (w : Walk) (C C′ : List ℕ) → C′ ≡ withWalk w C → (σ : St) → view h g inputs replies R S w ≡ σ
+    → view h g inputs replies R S (walkIn C′) ≡ σ
+view-put h g inputs replies R S w C C′ e σ v = ap (view h g inputs replies R S) (walk-put w C C′ e) ∙ v
+
+-- what stands for a node, while the walk goes on
+pub stands : (h : List Held) (g inputs replies R S : List ℕ) (x : ℕ) (C : List ℕ) (o : Out (St × ℕ)) → refusedIn C ≡ false
+    → outcomeOf h g inputs replies (Visited.Done (walkIn C) x) R S ≡ o → outcomeOf h g inputs replies (answerIn x C) R S ≡ o
+stands h g inputs replies R S x C o r e = ap (λ z. outcomeOf h g inputs replies z R S) (went false x C (sym r) refl) ∙ e
+
+-- the refusal that ended the walk
+module _ (z : Refusal) (C C′ : List ℕ) (e : C′ ≡ withRefusal (refusalOf z) C) where
+  pub refused-with : refusedIn C′ ≡ true
+  refused-with = ap refusedIn e ∙ ap not (numbered z)
+
+  pub refusal-with : refusalOf (refusalIn C′) ≡ refusalOf z
+  refusal-with = ap (λ D. refusalOf (refusalIn D)) e ∙ found-again z
+
+pub refuses : (h : List Held) (g inputs replies R S : List ℕ) (x : ℕ) (C C′ : List ℕ) (z : Refusal) → C′ ≡ withRefusal (refusalOf z) C
+    → outcomeOf h g inputs replies (answerIn x C′) R S ≡ refused (refusalOf z)
 unfolding outcomeOf
-refused-in g inputs replies R S x C z h r q = (h, kept-refused h g inputs replies R S x C (Visited.Refused z) z refl r q)
+refuses h g inputs replies R S x C C′ z e =
+    ap (λ y. outcomeOf h g inputs replies y R S) (stopped true x C′ (sym (refused-with z C C′ e)) refl)
+    ∙ ap refused (refusal-with z C C′ e)
 
 -- the counters hold the walk before, and what is answered is what they hold after
 pub entered : (g inputs replies R S : List ℕ) (w w′ : Walk) (r r′ : Visited) (Q T : List ℕ) (least : ℕ) (rule : ℕ → St → Out (St × ℕ)) → w′ ≡ w → r ≡ r′

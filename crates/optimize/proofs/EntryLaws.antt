@@ -42,7 +42,8 @@ use Rattle.optimize.specs.declared.walk.Optimized.{Optimized}
 use Rattle.optimize.specs.View.{countOf, wordOf}
 use Rattle.optimize.specs.Ending.{KindsKnown}
 use Rattle.optimize.specs.Runs.{Ends, Runs, modeIn}
-use Rattle.optimize.specs.Entries.{answered, inputsEnd, repliesEnd, resultLeft, InOrder, between, partOf, modelParts, RunnableParts, Brought}
+use Rattle.optimize.specs.CallWords.{between}
+use Rattle.optimize.specs.Entries.{answered, inputsEnd, repliesEnd, resultLeft, InOrder, partOf, modelParts, RunnableParts, Brought}
 use Rattle.optimize.proofs.Given.{count-is, table-is, part-is}
 use Rattle.optimize.proofs.Judged.{Passed, judged-passed}
 

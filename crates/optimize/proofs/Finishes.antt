@@ -1,7 +1,7 @@
 -- What comes after a node's operands: it is finished, asked about, takes an input or is forwarded, as the rules say.
 -- Assumes nothing.
 use Prim.Native.Nat.{ℕ, zero, suc, _+_, _*_, _<_, _≤_, _^_}
-use mathlib.Core.Path.{_≡_, refl, ap, sym, _∙_}
+use mathlib.Core.Path.{_≡_, refl, ap, sym, _∙_, subst}
 use mathlib.Core.Bool.{Bool, true, false, cond}
 use mathlib.Core.Option.{Option, none, some}
 use mathlib.Core.List.{List, [], _∷_, _++_}
@@ -26,7 +26,7 @@ use Rattle.optimize.specs.declared.walk.Visited.{Visited}
 use Rattle.optimize.specs.declared.fold.Constant.{Constant}
 use Rattle.optimize.specs.declared.memory.Found.{Found}
 use Rattle.optimize.specs.declared.memory.Search.{Search}
-use Rattle.optimize.specs.View.{countOf, wordOf, nodeOf, tableOf, rowsOf, markBy, markOf, view, constantIs, waysIn}
+use Rattle.optimize.specs.View.{countOf, wordOf, nodeOf, tableOf, rowsOf, markBy, markOf, view, outcomeOf, constantIs, waysIn, Meets}
 use Rattle.optimize.specs.Folding.{foldTwo, asksBit, valueIs, searchIs}
 use Rattle.optimize.specs.Process.{isStays, isRead, hasReplacement, thenAsk, settleThen, bitOf, takeOf, afterOne, afterTwo, foldedTwo, afterIte}
 use Rattle.optimize.proofs.Views.{mark-below}
@@ -178,6 +178,25 @@ module _ (g : List ℕ) (ways : Ways) (k : ℕ) (σ : St) (x y z : ℕ) (m : way
 
   pub ite-other : (wordOf g k 1 ≡ 1 → ⊥) → (wordOf g k 1 ≡ 2 → ⊥) → settle (tableOf g) ways k σ stays ≡ afterIte g ways σ k x y z
   ite-other d s = ite-asks (done (σ, stays)) (rw (ne-eqb (wordOf g k 1) 1 d, ne-eqb (wordOf g k 1) 2 s))
+
+-- ---- over the parts that the words of a call name
+module _ (h : List Held) (g inputs dumps reps reps′ R S : List ℕ) (w : Walk) (m : Bool) (k : ℕ) (r : Visited) (R′ S′ : List ℕ) (e : reps ≡ reps′) where
+  pub finish-by : (F : Fold) (b : Bool) → isStays F ≡ true → m ≡ true → b ≡ true
+      → outcomeOf h g inputs reps r R′ S′ ≡ settleThen g (waysIn dumps m reps) k (askBit (length reps) (countOf g) k quiet (view h g inputs reps R S w))
+      → outcomeOf h g inputs reps′ r R′ S′ ≡ finish (tableOf g) (waysIn dumps m reps′) k (view h g inputs reps′ R S w) F (bitOf g (waysIn dumps m reps′) k b)
+  finish-by F b i j d o =
+      subst (λ z. outcomeOf h g inputs z r R′ S′ ≡ finish (tableOf g) (waysIn dumps m z) k (view h g inputs z R S w) F (bitOf g (waysIn dumps m z) k b)) e
+      (o
+      ∙ ap (settleThen g (waysIn dumps m reps) k) (bit-asks g (waysIn dumps m reps) k b (view h g inputs reps R S w) d)
+      ∙ finish-asks g (waysIn dumps m reps) k (view h g inputs reps R S w) F (bitOf g (waysIn dumps m reps) k b) i j)
+
+  pub ite-by : (x y z : ℕ) → outcomeOf h g inputs reps r R′ S′ ≡ afterIte g (waysIn dumps m reps) (view h g inputs reps R S w) k x y z
+      → outcomeOf h g inputs reps′ r R′ S′ ≡ afterIte g (waysIn dumps m reps′) (view h g inputs reps′ R S w) k x y z
+  ite-by x y z o = subst (λ t. outcomeOf h g inputs t r R′ S′ ≡ afterIte g (waysIn dumps m t) (view h g inputs t R S w) k x y z) e o
+
+pub take-by : (h : List Held) (g ins ins′ reps R S : List ℕ) (w : Walk) (ways : Ways) (k : ℕ) (r : Visited) (R′ S′ : List ℕ) → ins ≡ ins′
+    → Meets g ins reps r R′ S′ (takeOf g ways (view h g ins reps R S w) k) → Meets g ins′ reps r R′ S′ (takeOf g ways (view h g ins′ reps R S w) k)
+take-by h g ins ins′ reps R S w ways k r R′ S′ e m = subst (λ t. Meets g t reps r R′ S′ (takeOf g ways (view h g t reps R S w) k)) e m
 
 -- ---- a mark that says replaced
 has-replacement : (n : ℕ) (S : List ℕ) (k : ℕ) → k < n → 1 < getD S k 0 → true ≡ hasReplacement (markOf n S k)

@@ -10,6 +10,7 @@ pub mod Walks
 pub mod Forms
 pub mod Keeps
 pub mod CounterLaws
+pub mod CallLaws
 pub mod BufferLaws
 pub mod SetUpLaws
 pub mod WriteLaws

@@ -3,10 +3,10 @@
 --     resultLeft              the result buffer at the end    InOrder                  a call that `judge` accepted
 --     modelParts, RunnableParts, Brought    the parts of the words that are folded
 -- Assumes nothing.
-use Prim.Native.Nat.{ℕ, _-_, _≤_}
+use Prim.Native.Nat.{ℕ, _≤_}
 use mathlib.Core.Path.{_≡_}
 use mathlib.Core.List.{List}
-use lib.ListN.{length, take, drop, replicate}
+use lib.ListN.{length, replicate}
 use Rattle.rules.specs.Refusal.{done}
 use Rattle.rules.specs.Limits.{house}
 use Rattle.rules.specs.Model.{Model}
@@ -17,6 +17,7 @@ use Rattle.tables.specs.Judging.{IsCut}
 use Rattle.tables.specs.declared.sections.Part.{Part}
 use Rattle.tables.specs.declared.sections.Sections.{Sections}
 use Rattle.optimize.specs.declared.walk.Optimized.{Optimized}
+use Rattle.optimize.specs.CallWords.{between}
 use Rattle.optimize.specs.Runs.{modelIn, Runnable}
 use Rattle.optimize.specs.declared.optimize.Entry.{Entry}
 
@@ -54,9 +55,6 @@ pub record InOrder (call : rules.Call) (s : Sections) : Type 0 where
   pub sections : with .sections ≡ sectionsIn (call .words) s
 
 -- ---- the parts of the words that are folded
-abbrev pub between : List ℕ → ℕ → ℕ → List ℕ
-between ws from to = take (to - from) (drop from ws)
-
 abbrev pub partOf : List ℕ → Part → List ℕ
 partOf ws p = between ws (p .start) (p .end)
 

@@ -3,6 +3,7 @@ pub mod Folding
 pub mod Process
 pub mod Laid
 pub mod Counters
+pub mod CallWords
 pub mod ResultView
 pub mod Lists
 pub mod Bads

@@ -1,6 +1,6 @@
 -- The rules' steps in the code's order, and what its answers are in the rules' terms.
 --     choiceIs            the branch that a condition chooses
---     askedOf, solvedOf   the outcome of a question, of a chain of questions
+--     askedOf, askedBy, solvedOf   the outcome of a question, of a chain of questions
 --     Form, formOf        what a node's visit does, by its kind             byForm   the rules' process by form
 --     oneOf, twoOf, ..    the visits of a node's operands, then what comes after them
 -- Assumes nothing.
@@ -15,12 +15,12 @@ use Rattle.rules.specs.Fold.{Fold, stays, swap, make, constOf, foldConst}
 use Rattle.rules.specs.Questions.{quiet, askOr, askBit, askIte}
 use Rattle.rules.specs.Visit.{Ways, Branch, left, right, undecided, branch, settle, finish, forward, takeInput, process, visit}
 use Rattle.tables.specs.Refusals.{refusalOf}
-use Rattle.optimize.specs.declared.walk.Walk.{Walk}
+use Rattle.optimize.specs.declared.fold.Folded.{Folded}
 use Rattle.optimize.specs.declared.smt_solver.Asked.{Asked}
-use Rattle.optimize.specs.declared.smt_solver.Solved.{Solved}
 use Rattle.optimize.specs.declared.form.Form.{Form}
 use Rattle.optimize.specs.declared.form.Choice.{Choice}
 use Rattle.optimize.specs.View.{countOf, wordOf, nodeOf, tableOf, view, foldIs}
+use Rattle.optimize.specs.Counters.{walkIn, refusedIn, refusalIn}
 use Rattle.optimize.specs.Folding.{foldTwo, foldOne, asksBit}
 
 -- the branch that a condition chooses
@@ -34,9 +34,12 @@ unfoldable pub askedOf : List Held → List ℕ → List ℕ → List ℕ → As
 askedOf h g inputs replies (Asked.Reply w a) R S = done (view h g inputs replies R S w, a)
 askedOf h g inputs replies (Asked.Refused r) R S = refused (refusalOf r)
 
-unfoldable pub solvedOf : List Held → List ℕ → List ℕ → List ℕ → Solved → List ℕ → List ℕ → Out (St × Fold)
-solvedOf h g inputs replies (Solved.Go w f) R S = done (view h g inputs replies R S w, foldIs f)
-solvedOf h g inputs replies (Solved.Refused r) R S = refused (refusalOf r)
+-- the same of a reply, and of a fold that questions gave, by the counters
+unfoldable pub askedBy : List Held → List ℕ → List ℕ → List ℕ → ℕ → List ℕ → List ℕ → List ℕ → Out (St × ℕ)
+askedBy h g inputs replies a C R S = elim (refusedIn C) [ true ↦ refused (refusalOf (refusalIn C)) | false ↦ done (view h g inputs replies R S (walkIn C), a) ]
+
+unfoldable pub solvedOf : List Held → List ℕ → List ℕ → List ℕ → Folded → List ℕ → List ℕ → List ℕ → Out (St × Fold)
+solvedOf h g inputs replies f C R S = elim (refusedIn C) [ true ↦ refused (refusalOf (refusalIn C)) | false ↦ done (view h g inputs replies R S (walkIn C), foldIs f) ]
 
 abbrev pub isStays : Fold → Bool
 isStays stays = true

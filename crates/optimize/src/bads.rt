@@ -3,10 +3,11 @@ use crate::buffers::get_constant;
 use crate::buffers::number;
 use crate::buffers::operand;
 use crate::buffers::wide;
+use crate::call_words::replies_in;
 use crate::fold::Constant;
 use crate::lists::put_entry;
 use crate::smt_solver::Asked;
-use crate::smt_solver::ask;
+use crate::smt_solver::ask_at;
 use crate::visit::visit_entry;
 use crate::walk::Visited;
 use crate::walk::Walk;
@@ -22,7 +23,7 @@ ghost use Rattle.rules.specs.Walk.{Held};
 ghost use Rattle.rules.specs.Fold.{isConst};
 ghost use Rattle.rules.specs.Visit.{Ways};
 ghost use Rattle.optimize.specs.View.{countOf, tableOf, waysIn, constantIs, view};
-ghost use Rattle.optimize.specs.Laid.{Laid};
+ghost use Rattle.optimize.specs.CallWords.{inputsIn, repliesIn, minimiseIn, waysBy, LaidBy};
 ghost use Rattle.optimize.specs.Lists.{entriesOf};
 ghost use Rattle.optimize.specs.Bads.{Spare, retainedOf, judgedOf, replyRule, badRule, retainRule, listRule, Retains, KeptIf, BadsLeft};
 
@@ -99,7 +100,7 @@ fn judge_bad(
     if !how.solver {
         return Retained::Done(walk, true);
     }
-    let asked = ask(given, replies, scratch, walk, 4, condition, 0);
+    let asked = ask_at(given, replies, scratch, walk, 4, condition, 0);
     match asked {
         Asked::Reply(after, reply) => by_reply(how, place, after, reply),
         Asked::Refused(refusal) => Retained::Refused(refusal),
@@ -109,38 +110,26 @@ fn judge_bad(
 // Visits a bad, and judges it by its rewritten condition.
 fn should_retain_bad_state(
     given: &[u64],
-    inputs: &[u64],
-    replies: &[u64],
-    dumps: &[u8],
     result: &mut [u64],
     scratch: &mut [u64],
-    minimise: bool,
+    dumps: &[u8; 4097],
+    call: &[usize; 5],
     how: Judging,
     place: usize,
     walk: Walk,
     bad: usize,
 ) -> Retained
-    requires { ⌜ Laid (now given) (now dumps) (now inputs) (now replies) minimise (now result) (now scratch) walk ⌝ }
+    requires { ⌜ LaidBy (now given) (now dumps) (now call) (now result) (now scratch) walk ⌝ }
     requires { ⌜ (bad < countOf (now given)) × Spare (now given) (now scratch) walk 1 ⌝ }
-    ensures { λ r. ⌜ Retains (now (given .entry)) (now (inputs .entry)) (now (replies .entry)) (now (result .entry)) (now (scratch .entry)) walk r (now (result .exit)) (now (scratch .exit)) (retainRule (now (given .entry)) (waysIn (now (dumps .entry)) minimise (now (replies .entry))) how place bad) ⌝ }
+    ensures { λ r. ⌜ Retains (now (given .entry)) (inputsIn (now (given .entry)) (now (call .entry))) (repliesIn (now (given .entry)) (now (call .entry))) (now (result .entry)) (now (scratch .entry)) walk r (now (result .exit)) (now (scratch .exit)) (retainRule (now (given .entry)) (waysBy (now (given .entry)) (now (dumps .entry)) (now (call .entry))) how place bad) ⌝ }
 {
-    let visited = visit_entry(
-        given,
-        inputs,
-        replies,
-        dumps,
-        result,
-        scratch,
-        minimise,
-        walk,
-        bad,
-    );
+    let visited = visit_entry(given, result, scratch, dumps, call, walk, bad);
     match visited {
         Visited::Done(after, _) => {
             let condition = operand(result, bad, 2);
             judge_bad(
                 given,
-                replies,
+                replies_in(given, call),
                 result,
                 scratch,
                 how,
@@ -156,31 +145,27 @@ fn should_retain_bad_state(
 // The same, where the walk has the words of scratch before `at`: the lists after them stay.
 fn retain_in(
     given: &[u64],
-    inputs: &[u64],
-    replies: &[u64],
-    dumps: &[u8],
     result: &mut [u64],
     scratch: &mut [u64],
-    minimise: bool,
+    dumps: &[u8; 4097],
+    call: &[usize; 5],
     how: Judging,
     at: usize,
     place: usize,
     walk: Walk,
     bad: usize,
 ) -> Retained
-    requires { ⌜ Laid (now given) (now dumps) (now inputs) (now replies) minimise (now result) (take at (now scratch)) walk ⌝ }
+    requires { ⌜ LaidBy (now given) (now dumps) (now call) (now result) (take at (now scratch)) walk ⌝ }
     requires { ⌜ (at ≤ length (now scratch)) × (bad < countOf (now given)) × Spare (now given) (take at (now scratch)) walk 1 ⌝ }
-    ensures { λ r. ⌜ Retains (now (given .entry)) (now (inputs .entry)) (now (replies .entry)) (now (result .entry)) (take at (now (scratch .entry))) walk r (now (result .exit)) (take at (now (scratch .exit))) (retainRule (now (given .entry)) (waysIn (now (dumps .entry)) minimise (now (replies .entry))) how place bad) ⌝ }
+    ensures { λ r. ⌜ Retains (now (given .entry)) (inputsIn (now (given .entry)) (now (call .entry))) (repliesIn (now (given .entry)) (now (call .entry))) (now (result .entry)) (take at (now (scratch .entry))) walk r (now (result .exit)) (take at (now (scratch .exit))) (retainRule (now (given .entry)) (waysBy (now (given .entry)) (now (dumps .entry)) (now (call .entry))) how place bad) ⌝ }
     ensures { λ _. ⌜ drop at (now (scratch .exit)) ≡ drop at (now (scratch .entry)) ⌝ }
 {
     should_retain_bad_state(
         given,
-        inputs,
-        replies,
-        dumps,
         result,
         &mut scratch[0..at],
-        minimise,
+        dumps,
+        call,
         how,
         place,
         walk,
@@ -203,43 +188,28 @@ fn put_if(scratch: &mut [u64], list: usize, kept: usize, entry: u64, stays: bool
 // Judges the bads of a list in order; those that stay stand in scratch from `list` on.
 pub(crate) fn judge_bads(
     given: &[u64],
-    inputs: &[u64],
-    replies: &[u64],
-    dumps: &[u8],
     bads: &[u64],
     result: &mut [u64],
     scratch: &mut [u64],
-    minimise: bool,
+    dumps: &[u8; 4097],
+    call: &[usize; 5],
     how: Judging,
     at: usize,
     list: usize,
     walk: Walk,
 ) -> Judged
-    requires { ⌜ Laid (now given) (now dumps) (now inputs) (now replies) minimise (now result) (take at (now scratch)) walk ⌝ }
+    requires { ⌜ LaidBy (now given) (now dumps) (now call) (now result) (take at (now scratch)) walk ⌝ }
     requires { ⌜ All (BadEntry (tableOf (now given))) (now bads) × Spare (now given) (take at (now scratch)) walk (length (now bads)) ⌝ }
     requires { ⌜ (at ≤ list) × (list + length (now bads) ≤ length (now scratch)) ⌝ }
-    ensures { λ r. ⌜ ((h : List Held) → (h′ : List Held) × (dropped : List ℕ) × (judgedOf h′ dropped (now (given .entry)) (now (inputs .entry)) (now (replies .entry)) r (now (result .exit)) (now (scratch .exit)) at list ≡ listRule (now (given .entry)) (waysIn (now (dumps .entry)) minimise (now (replies .entry))) how 0 (view h (now (given .entry)) (now (inputs .entry)) (now (replies .entry)) (now (result .entry)) (take at (now (scratch .entry))) walk) (now (bads .entry)))) ⌝ }
-    ensures { λ r. ⌜ BadsLeft (now (given .entry)) (now (dumps .entry)) (now (inputs .entry)) (now (replies .entry)) minimise (length (now (bads .entry))) (now (scratch .entry)) walk r (now (result .exit)) (now (scratch .exit)) at list ⌝ }
+    ensures { λ r. ⌜ ((h : List Held) → (h′ : List Held) × (dropped : List ℕ) × (judgedOf h′ dropped (now (given .entry)) (inputsIn (now (given .entry)) (now (call .entry))) (repliesIn (now (given .entry)) (now (call .entry))) r (now (result .exit)) (now (scratch .exit)) at list ≡ listRule (now (given .entry)) (waysBy (now (given .entry)) (now (dumps .entry)) (now (call .entry))) how 0 (view h (now (given .entry)) (inputsIn (now (given .entry)) (now (call .entry))) (repliesIn (now (given .entry)) (now (call .entry))) (now (result .entry)) (take at (now (scratch .entry))) walk) (now (bads .entry)))) ⌝ }
+    ensures { λ r. ⌜ BadsLeft (now (given .entry)) (now (dumps .entry)) (inputsIn (now (given .entry)) (now (call .entry))) (repliesIn (now (given .entry)) (now (call .entry))) (minimiseIn (now (call .entry))) (length (now (bads .entry))) (now (scratch .entry)) walk r (now (result .exit)) (now (scratch .exit)) at list ⌝ }
 {
     let mut walk = walk;
     let mut kept = 0;
     let mut i = 0;
     while i < bads.len() {
         let bad = number(bads[i]);
-        let retained = retain_in(
-            given,
-            inputs,
-            replies,
-            dumps,
-            result,
-            scratch,
-            minimise,
-            how,
-            at,
-            i,
-            walk,
-            bad,
-        );
+        let retained = retain_in(given, result, scratch, dumps, call, how, at, i, walk, bad);
         match retained {
             Retained::Done(after, stays) => {
                 kept = put_if(scratch, list, kept, wide(bad), stays);

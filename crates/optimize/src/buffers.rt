@@ -1,17 +1,18 @@
 // The given words and the two lent buffers, word by word: rows, constants and marks.
+use crate::counters::made_one;
 use crate::fold::Constant;
-use crate::walk::Walk;
 use tables::node::CodedKind;
 use tables::node::NodeKind;
 ghost use Prim.Native.Nat.{ℕ, _+_, _*_, _<_, _≤_};
 ghost use mathlib.Core.Path.{_≡_};
 ghost use mathlib.Core.List.{List};
-ghost use lib.ListN.{length, drop};
+ghost use lib.ListN.{length, getD, drop};
 ghost use Rattle.rules.specs.Table.{kindOf, with};
 ghost use Rattle.rules.specs.Walk.{Held, setRow, setMark, addConst};
 ghost use Rattle.rules.specs.Fold.{constOf};
 ghost use Rattle.tables.specs.NodeAnswers.{kindIs};
 ghost use Rattle.optimize.specs.View.{constantIs, countOf, wordOf, nodeOf, rowsOf, markBy, view};
+ghost use Rattle.optimize.specs.Counters.{walkIn, withWalk, oneMade};
 ghost use Rattle.optimize.specs.declared.walk.Walk.{Walk};
 
 pub(crate) fn number(x: u64) -> usize
@@ -83,25 +84,24 @@ pub(crate) fn get_constant(given: &[u64], result: &[u64], made: usize, at: usize
 }
 
 // A new constant after those made.
-pub(crate) fn push(given: &[u64], result: &mut [u64], walk: Walk, sort: u64, value: u64) -> Walk
+pub(crate) fn push(
+    given: &[u64],
+    result: &mut [u64],
+    counters: &mut [usize; 9],
+    sort: u64,
+    value: u64,
+)
     requires { ⌜ (0 < length (now given)) × (countOf (now given) ≤ 4096) ⌝ }
     requires { ⌜ 22 * countOf (now given) + 22 ≤ length (now result) ⌝ }
-    requires { ⌜ walk .made < countOf (now given) ⌝ }
-    ensures { λ r. ⌜ ((h : List Held) (inputs replies S : List ℕ) → view h (now (given .entry)) inputs replies (now (result .exit)) S r ≡ addConst (view h (now (given .entry)) inputs replies (now (result .entry)) S walk) (countOf (now (given .entry)) + 2 + walk .made) sort value) ⌝ }
+    requires { ⌜ getD (now counters) 0 0 < countOf (now given) ⌝ }
+    ensures { λ _. ⌜ ((h : List Held) (inputs replies S : List ℕ) → view h (now (given .entry)) inputs replies (now (result .exit)) S (walkIn (now (counters .exit))) ≡ addConst (view h (now (given .entry)) inputs replies (now (result .entry)) S (walkIn (now (counters .entry)))) (countOf (now (given .entry)) + 2 + getD (now (counters .entry)) 0 0) sort value) ⌝ }
+    ensures { λ _. ⌜ now (counters .exit) ≡ withWalk (oneMade (walkIn (now (counters .entry)))) (now (counters .entry)) ⌝ }
 {
     let n = node_count(given);
-    let made = walk.made;
-    let at = 2 + 6 * n + 2 * (2 + made);
+    let at = 2 + 6 * n + 2 * (2 + counters[0]);
     result[at] = sort;
     result[at + 1] = value;
-    Walk {
-        made: made + 1,
-        taken: walk.taken,
-        used: walk.used,
-        asked: walk.asked,
-        looked: walk.looked,
-        passed: walk.passed,
-    }
+    made_one(counters);
 }
 
 // A node's row, with the operands that it is left with.

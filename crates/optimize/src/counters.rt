@@ -5,14 +5,11 @@ use crate::buffers::wide;
 use crate::walk::Visited;
 use crate::walk::Walk;
 use tables::refusal::Refusal;
-ghost use Prim.Native.Nat.{ℕ};
+ghost use Prim.Native.Nat.{_<_, _≤_};
 ghost use mathlib.Core.Path.{_≡_};
-ghost use mathlib.Core.Bool.{true};
-ghost use mathlib.Core.List.{List};
-ghost use Rattle.rules.specs.Walk.{Held};
+ghost use lib.ListN.{getD};
 ghost use Rattle.tables.specs.Refusals.{refusalOf};
-ghost use Rattle.optimize.specs.View.{outcomeOf};
-ghost use Rattle.optimize.specs.Counters.{walkIn, refusedIn, Going, refusalBy, refusalIn, answerIn};
+ghost use Rattle.optimize.specs.Counters.{walkIn, refusedIn, withWalk, oneMade, oneTaken, oneAsked, tallied, withRefusal, refusalBy, refusalIn, answerIn};
 
 pub(crate) fn walk_in(counters: &[usize; 9]) -> Walk
     ensures { λ r. ⌜ r ≡ walkIn (now (counters .entry)) ⌝ }
@@ -27,9 +24,9 @@ pub(crate) fn walk_in(counters: &[usize; 9]) -> Walk
     }
 }
 
+// The counters hold a walk.
 pub(crate) fn put_walk(walk: Walk, counters: &mut [usize; 9])
-    ensures { λ _. ⌜ walkIn (now (counters .exit)) ≡ walk ⌝ }
-    ensures { λ _. ⌜ refusedIn (now (counters .exit)) ≡ refusedIn (now (counters .entry)) ⌝ }
+    ensures { λ _. ⌜ now (counters .exit) ≡ withWalk walk (now (counters .entry)) ⌝ }
 {
     *counters = [
         walk.made,
@@ -38,6 +35,79 @@ pub(crate) fn put_walk(walk: Walk, counters: &mut [usize; 9])
         walk.asked,
         walk.looked,
         walk.passed,
+        counters[6],
+        counters[7],
+        counters[8],
+    ];
+}
+
+// One more constant is made.
+pub(crate) fn made_one(counters: &mut [usize; 9])
+    requires { ⌜ getD (now counters) 0 0 < 4096 ⌝ }
+    ensures { λ _. ⌜ now (counters .exit) ≡ withWalk (oneMade (walkIn (now (counters .entry)))) (now (counters .entry)) ⌝ }
+{
+    *counters = [
+        counters[0] + 1,
+        counters[1],
+        counters[2],
+        counters[3],
+        counters[4],
+        counters[5],
+        counters[6],
+        counters[7],
+        counters[8],
+    ];
+}
+
+// One more input is taken.
+pub(crate) fn took_one(counters: &mut [usize; 9])
+    requires { ⌜ getD (now counters) 1 0 < 18446744073709551615 ⌝ }
+    ensures { λ _. ⌜ now (counters .exit) ≡ withWalk (oneTaken (walkIn (now (counters .entry)))) (now (counters .entry)) ⌝ }
+{
+    *counters = [
+        counters[0],
+        counters[1] + 1,
+        counters[2],
+        counters[3],
+        counters[4],
+        counters[5],
+        counters[6],
+        counters[7],
+        counters[8],
+    ];
+}
+
+// One more question is asked; then so many replies are used.
+pub(crate) fn asked_one(counters: &mut [usize; 9], used: usize)
+    requires { ⌜ getD (now counters) 3 0 < 18446744073709551615 ⌝ }
+    ensures { λ _. ⌜ now (counters .exit) ≡ withWalk (oneAsked (walkIn (now (counters .entry))) used) (now (counters .entry)) ⌝ }
+{
+    *counters = [
+        counters[0],
+        counters[1],
+        used,
+        counters[3] + 1,
+        counters[4],
+        counters[5],
+        counters[6],
+        counters[7],
+        counters[8],
+    ];
+}
+
+// The counts of a search are added.
+pub(crate) fn tally(counters: &mut [usize; 9], looked: usize, passed: usize)
+    requires { ⌜ (getD (now counters) 4 0 ≤ 16777216) × (getD (now counters) 5 0 ≤ 16777216) ⌝ }
+    requires { ⌜ (looked ≤ 4096) × (passed ≤ 4096) ⌝ }
+    ensures { λ _. ⌜ now (counters .exit) ≡ withWalk (tallied (walkIn (now (counters .entry))) looked passed) (now (counters .entry)) ⌝ }
+{
+    *counters = [
+        counters[0],
+        counters[1],
+        counters[2],
+        counters[3],
+        counters[4] + looked,
+        counters[5] + passed,
         counters[6],
         counters[7],
         counters[8],
@@ -53,8 +123,7 @@ pub(crate) fn is_refused(counters: &[usize; 9]) -> bool
 
 // The walk ends with a refusal.
 pub(crate) fn refuse(refusal: Refusal, counters: &mut [usize; 9])
-    ensures { λ _. ⌜ refusedIn (now (counters .exit)) ≡ true ⌝ }
-    ensures { λ _. ⌜ refusalOf (refusalIn (now (counters .exit))) ≡ refusalOf refusal ⌝ }
+    ensures { λ _. ⌜ now (counters .exit) ≡ withRefusal (refusalOf refusal) (now (counters .entry)) ⌝ }
 {
     *counters = [
         counters[0],
@@ -67,23 +136,6 @@ pub(crate) fn refuse(refusal: Refusal, counters: &mut [usize; 9])
         number(refusal.section()),
         refusal.position(),
     ];
-}
-
-// Keeps what a visit came to; the number answered stands for the node, unless the visit was refused.
-pub(crate) fn keep(visited: Visited, counters: &mut [usize; 9]) -> usize
-    requires { ⌜ Going (now counters) ⌝ }
-    ensures { λ r. ⌜ ((h : List Held) (g inputs replies R S : List ℕ) → outcomeOf h g inputs replies (answerIn r (now (counters .exit))) R S ≡ outcomeOf h g inputs replies visited R S) ⌝ }
-{
-    match visited {
-        Visited::Done(walk, node) => {
-            put_walk(walk, counters);
-            node
-        }
-        Visited::Refused(refusal) => {
-            refuse(refusal, counters);
-            0
-        }
-    }
 }
 
 // The refusal that has a number, section and position.
@@ -115,12 +167,19 @@ fn refusal_by(number: usize, section: usize, position: usize) -> Refusal
     }
 }
 
+// The refusal that ended the walk.
+pub(crate) fn refusal_in(counters: &[usize; 9]) -> Refusal
+    ensures { λ r. ⌜ r ≡ refusalIn (now (counters .entry)) ⌝ }
+{
+    refusal_by(counters[6], counters[7], counters[8])
+}
+
 // What a visit that answered `node` came to.
 pub(crate) fn visited_in(node: usize, counters: &[usize; 9]) -> Visited
     ensures { λ r. ⌜ r ≡ answerIn node (now (counters .entry)) ⌝ }
 {
     if is_refused(counters) {
-        return Visited::Refused(refusal_by(counters[6], counters[7], counters[8]));
+        return Visited::Refused(refusal_in(counters));
     }
     Visited::Done(walk_in(counters), node)
 }

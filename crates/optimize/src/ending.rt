@@ -1,6 +1,8 @@
 // The end of a run: the counters and the kind codes of the rows are made sure of, then the result is written.
 // None of it changes the state that lies in the buffers.
 use crate::buffers::node_count;
+use crate::call_words::inputs_in;
+use crate::call_words::replies_in;
 use crate::result::Kept;
 use crate::result::Sizes;
 use crate::result::write_result;
@@ -15,6 +17,7 @@ ghost use Rattle.rules.specs.Result.{resultWords};
 ghost use Rattle.optimize.specs.View.{countOf, wordOf, view};
 ghost use Rattle.optimize.specs.ResultView.{foldedIn, ModelOf, Handed};
 ghost use Rattle.optimize.specs.Ending.{KindsKept, Ended};
+ghost use Rattle.optimize.specs.CallWords.{inputsIn, repliesIn};
 ghost use Rattle.optimize.specs.declared.walk.Walk.{Walk};
 
 // The smaller of a count and the length of a list: the same entries of the list are left.
@@ -62,7 +65,7 @@ fn restore_kinds(given: &[u64], result: &mut [u64])
 }
 
 // Writes the result of a run, as the walk left it. Answers how many words it has.
-pub(crate) fn write_run(
+fn write_run(
     given: &[u64],
     inputs: &[u64],
     replies: &[u64],
@@ -79,4 +82,31 @@ pub(crate) fn write_run(
     let sure = counted(walk, inputs, replies);
     restore_kinds(given, result);
     write_result(given, inputs, result, scratch, sure, kept, sizes, verdict)
+}
+
+// The same, of the inputs and the replies that the words of a call name.
+pub(crate) fn write_call(
+    given: &[u64],
+    call: &[usize; 5],
+    result: &mut [u64],
+    scratch: &[u64],
+    walk: Walk,
+    kept: Kept,
+    sizes: Sizes,
+    verdict: u64,
+) -> usize
+    requires { ⌜ Ended (now given) (inputsIn (now given) (now call)) (now result) (now scratch) walk kept sizes ⌝ }
+    ensures { λ r. ⌜ ((h : List Held) (d : List ℕ) (m : Model) → ModelOf (now (given .entry)) (inputsIn (now (given .entry)) (now (call .entry))) (repliesIn (now (given .entry)) (now (call .entry))) m → Handed (flatten (resultWords m (foldedIn h d (now (given .entry)) (inputsIn (now (given .entry)) (now (call .entry))) (repliesIn (now (given .entry)) (now (call .entry))) (now (result .entry)) (now (scratch .entry)) walk kept sizes verdict))) (length (now (result .entry))) (now (result .exit)) r) ⌝ }
+{
+    write_run(
+        given,
+        inputs_in(given, call),
+        replies_in(given, call),
+        result,
+        scratch,
+        walk,
+        kept,
+        sizes,
+        verdict,
+    )
 }

@@ -1,11 +1,10 @@
 // A State without init takes an input: the concrete times, in visiting order.
-use crate::buffers::number;
 use crate::buffers::operand;
 use crate::buffers::word;
+use crate::counters::refuse;
+use crate::counters::took_one;
 use crate::fold::Folded;
 use crate::settle::settle;
-use crate::walk::Visited;
-use crate::walk::Walk;
 use btor::node_type::CodedSort;
 use btor::node_type::NodeType;
 use tables::refusal::Refusal;
@@ -20,6 +19,7 @@ ghost use Rattle.rules.specs.Walk.{Held};
 ghost use Rattle.optimize.specs.View.{view, waysIn, Meets};
 ghost use Rattle.optimize.specs.Process.{takeOf};
 ghost use Rattle.optimize.specs.Laid.{Room};
+ghost use Rattle.optimize.specs.Counters.{walkIn, Going, answerIn};
 
 // Whether a number fits the width of a sort.
 fn fits_sort(sort: u64, number: u64) -> bool
@@ -42,47 +42,44 @@ fn is_dump(dumps: &[u8], name: usize) -> bool
     }
 }
 
-// A State without init takes the first input left.
+// A State without init takes the first of `inputs` that is left.
 pub(crate) fn take_input(
     given: &[u64],
     inputs: &[u64],
-    dumps: &[u8],
     result: &mut [u64],
     scratch: &mut [u64],
-    walk: Walk,
+    dumps: &[u8; 4097],
+    counters: &mut [usize; 9],
     node: usize,
-) -> Visited
-    requires { ⌜ Room (now given) (now result) (now scratch) walk node ⌝ }
-    ensures { λ r. ⌜ ((h : List Held) (replies : List ℕ) (minimise : Bool) → Meets (now (given .entry)) (now (inputs .entry)) replies r (now (result .exit)) (now (scratch .exit)) (takeOf (now (given .entry)) (waysIn (now (dumps .entry)) minimise replies) (view h (now (given .entry)) (now (inputs .entry)) replies (now (result .entry)) (now (scratch .entry)) walk) node)) ⌝ }
+) -> usize
+    requires { ⌜ Room (now given) (now result) (now scratch) (walkIn (now counters)) node ⌝ }
+    requires { ⌜ Going (now counters) ⌝ }
+    ensures { λ r. ⌜ ((h : List Held) (replies : List ℕ) (minimise : Bool) → Meets (now (given .entry)) (now (inputs .entry)) replies (answerIn r (now (counters .exit))) (now (result .exit)) (now (scratch .exit)) (takeOf (now (given .entry)) (waysIn (now (dumps .entry)) minimise replies) (view h (now (given .entry)) (now (inputs .entry)) replies (now (result .entry)) (now (scratch .entry)) (walkIn (now (counters .entry)))) node)) ⌝ }
 {
-    let taken = walk.taken;
+    let taken = counters[1];
     if inputs.len() <= taken {
-        return settle(given, result, scratch, walk, node, Folded::Stays);
+        return settle(given, result, scratch, counters, node, Folded::Stays);
     }
-    if is_dump(dumps, operand(given, node, 5)) {
-        return settle(given, result, scratch, walk, node, Folded::Stays);
+    let marks: &[u8] = dumps;
+    if is_dump(marks, operand(given, node, 5)) {
+        return settle(given, result, scratch, counters, node, Folded::Stays);
     }
     let sort = word(given, node, 1);
     if sort == 3 {
-        return Visited::Refused(Refusal::MemoryInput(node));
+        refuse(Refusal::MemoryInput(node), counters);
+        return node;
     }
     let value = inputs[taken];
     if !fits_sort(sort, value) {
-        return Visited::Refused(Refusal::InputTooWide(node));
+        refuse(Refusal::InputTooWide(node), counters);
+        return node;
     }
-    let after = Walk {
-        made: walk.made,
-        taken: taken + 1,
-        used: walk.used,
-        asked: walk.asked,
-        looked: walk.looked,
-        passed: walk.passed,
-    };
+    took_one(counters);
     settle(
         given,
         result,
         scratch,
-        after,
+        counters,
         node,
         Folded::Make(sort, value),
     )

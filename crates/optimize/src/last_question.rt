@@ -1,7 +1,8 @@
 // The last question of one-query: whether the initial bads left are always false.
 use crate::buffers::number;
+use crate::call_words::replies_in;
 use crate::smt_solver::Asked;
-use crate::smt_solver::ask;
+use crate::smt_solver::ask_at;
 use crate::walk::Walk;
 use tables::refusal::Refusal;
 ghost use Prim.Native.Nat.{ℕ, _+_, _*_, _<_, _≤_};
@@ -15,6 +16,7 @@ ghost use Rattle.rules.specs.Whole.{lastQuestion};
 ghost use Rattle.optimize.specs.View.{countOf, view};
 ghost use Rattle.optimize.specs.Process.{askedOf};
 ghost use Rattle.optimize.specs.Lists.{entriesOf};
+ghost use Rattle.optimize.specs.CallWords.{repliesIn};
 ghost use Rattle.optimize.specs.LastQuestion.{answeredOf, verdictThen, forgotten};
 
 // The walk and the verdict: 1 found, 2 not found, 3 folding removed all.
@@ -54,11 +56,11 @@ fn ask_in(
     ensures { λ r. ⌜ ((h : List Held) (inputs R : List ℕ) → askedOf h (now (given .entry)) inputs (now (replies .entry)) r R (take at (now (scratch .exit))) ≡ ask (length (now (replies .entry))) (view h (now (given .entry)) inputs (now (replies .entry)) R (take at (now (scratch .entry))) walk) kind first 0 []) ⌝ }
     ensures { λ _. ⌜ drop at (now (scratch .exit)) ≡ drop at (now (scratch .entry)) ⌝ }
 {
-    ask(given, replies, &mut scratch[0..at], walk, kind, first, 0)
+    ask_at(given, replies, &mut scratch[0..at], walk, kind, first, 0)
 }
 
 // One always-false question covers the bads left: kind 2 about the only one, kind 5 with their count about several.
-pub(crate) fn last_question(
+fn last_question(
     given: &[u64],
     replies: &[u64],
     scratch: &mut [u64],
@@ -82,4 +84,30 @@ pub(crate) fn last_question(
     }
     let asked = ask_in(given, replies, scratch, at, walk, 5, kept);
     verdict_of(asked)
+}
+
+// The same, with the replies that the words of a call name.
+pub(crate) fn put_last_question(
+    given: &[u64],
+    call: &[usize; 5],
+    scratch: &mut [u64],
+    at: usize,
+    list: usize,
+    kept: usize,
+    walk: Walk,
+) -> Answered
+    requires { ⌜ (0 < length (now given)) × (countOf (now given) ≤ 4096) ⌝ }
+    requires { ⌜ (at ≤ list) × (list + kept ≤ length (now scratch)) × (2 * countOf (now given) + 4 * (walk .asked + 1) ≤ at) ⌝ }
+    ensures { λ r. ⌜ ((h : List Held) (inputs R : List ℕ) (m : Model) (how : Mode) → length (m .replies) ≡ length (repliesIn (now (given .entry)) (now (call .entry))) → answeredOf h (now (given .entry)) inputs (repliesIn (now (given .entry)) (now (call .entry))) r R (take at (now (scratch .exit))) ≡ forgotten (lastQuestion m how (view h (now (given .entry)) inputs (repliesIn (now (given .entry)) (now (call .entry))) R (take at (now (scratch .entry))) walk) (entriesOf (now (scratch .entry)) list kept))) ⌝ }
+    ensures { λ _. ⌜ drop at (now (scratch .exit)) ≡ drop at (now (scratch .entry)) ⌝ }
+{
+    last_question(
+        given,
+        replies_in(given, call),
+        scratch,
+        at,
+        list,
+        kept,
+        walk,
+    )
 }

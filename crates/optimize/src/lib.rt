@@ -2,6 +2,7 @@
 mod bads; // bads.rt: which bads are kept
 mod beginning; // beginning.rt: the buffers set up, and the sequentials judged
 mod buffers; // buffers.rt: the rows, constants and marks in the buffers
+mod call_words; // call_words.rt: what a call fixes, as visits are lent it
 mod counters; // counters.rt: the counters of a walk, as visits are lent them
 mod ending; // ending.rt: what is made sure of before the result is written
 mod fold; // fold.rt: what a node folds to
@@ -16,5 +17,6 @@ mod run; // run.rt: the fold of a judged call
 mod sequentials; // sequentials.rt: which sequentials are kept
 mod settle; // settle.rt: what comes after the visits of a node's operands
 mod smt_solver; // smt_solver.rt: the four questions, and the replies in place of a solver
+mod solve; // solve.rt: the questions about a node that stays, and what is recorded of it
 mod visit; // visit.rt: visiting a node and rewriting it
 pub mod walk; // walk.rt: what a walk counts, and what visits and entry points answer

@@ -9,9 +9,9 @@ ghost use mathlib.Core.Path.{_≡_};
 ghost use lib.ListN.{length, take, drop, set};
 ghost use Rattle.rules.specs.Lists.{All};
 ghost use Rattle.rules.specs.Whole.{visitAll};
-ghost use Rattle.optimize.specs.View.{countOf, tableOf, waysIn};
+ghost use Rattle.optimize.specs.View.{countOf, tableOf};
 ghost use Rattle.optimize.specs.Process.{visitOf};
-ghost use Rattle.optimize.specs.Laid.{Laid, Visits};
+ghost use Rattle.optimize.specs.CallWords.{inputsIn, repliesIn, minimiseIn, waysBy, LaidBy, VisitsBy};
 ghost use Rattle.optimize.specs.Lists.{entriesOf, WalksTo, LaidAfter};
 
 // An entry of a list.
@@ -25,70 +25,45 @@ pub(crate) fn put_entry(list: &mut [u64], at: usize, entry: u64)
 // A visit whose walk has the words of scratch before `at`: the lists after them stay.
 pub(crate) fn visit_in(
     given: &[u64],
-    inputs: &[u64],
-    replies: &[u64],
-    dumps: &[u8],
     result: &mut [u64],
     scratch: &mut [u64],
-    minimise: bool,
+    dumps: &[u8; 4097],
+    call: &[usize; 5],
     at: usize,
     walk: Walk,
     node: usize,
 ) -> Visited
     requires { ⌜ (at ≤ length (now scratch)) × (node < countOf (now given)) ⌝ }
-    requires { ⌜ Laid (now given) (now dumps) (now inputs) (now replies) minimise (now result) (take at (now scratch)) walk ⌝ }
-    ensures { λ r. ⌜ Visits (now (given .entry)) (now (inputs .entry)) (now (replies .entry)) (now (result .entry)) (take at (now (scratch .entry))) walk r (now (result .exit)) (take at (now (scratch .exit))) (node + 1) (λ f σ. visitOf (now (given .entry)) (waysIn (now (dumps .entry)) minimise (now (replies .entry))) f σ node) ⌝ }
+    requires { ⌜ LaidBy (now given) (now dumps) (now call) (now result) (take at (now scratch)) walk ⌝ }
+    ensures { λ r. ⌜ VisitsBy (now (given .entry)) (now (call .entry)) (now (result .entry)) (take at (now (scratch .entry))) walk r (now (result .exit)) (take at (now (scratch .exit))) (node + 1) (λ f σ. visitOf (now (given .entry)) (waysBy (now (given .entry)) (now (dumps .entry)) (now (call .entry))) f σ node) ⌝ }
     ensures { λ r. ⌜ drop at (now (scratch .exit)) ≡ drop at (now (scratch .entry)) ⌝ }
 {
-    visit_entry(
-        given,
-        inputs,
-        replies,
-        dumps,
-        result,
-        &mut scratch[0..at],
-        minimise,
-        walk,
-        node,
-    )
+    visit_entry(given, result, &mut scratch[0..at], dumps, call, walk, node)
 }
 
 // Visits the nodes of a list that stands in scratch from `at` on, in order; the walk has the words before it.
 pub(crate) fn visit_all(
     given: &[u64],
-    inputs: &[u64],
-    replies: &[u64],
-    dumps: &[u8],
     result: &mut [u64],
     scratch: &mut [u64],
-    minimise: bool,
+    dumps: &[u8; 4097],
+    call: &[usize; 5],
     at: usize,
     count: usize,
     walk: Walk,
 ) -> Walked
     requires { ⌜ at + count ≤ length (now scratch) ⌝ }
-    requires { ⌜ Laid (now given) (now dumps) (now inputs) (now replies) minimise (now result) (take at (now scratch)) walk ⌝ }
+    requires { ⌜ LaidBy (now given) (now dumps) (now call) (now result) (take at (now scratch)) walk ⌝ }
     requires { ⌜ All (λ k. k < countOf (now given)) (entriesOf (now scratch) at count) ⌝ }
-    ensures { λ r. ⌜ WalksTo (now (given .entry)) (now (inputs .entry)) (now (replies .entry)) (now (result .entry)) (take at (now (scratch .entry))) walk r (now (result .exit)) (take at (now (scratch .exit))) (λ σ. visitAll (tableOf (now (given .entry))) (waysIn (now (dumps .entry)) minimise (now (replies .entry))) σ (entriesOf (now (scratch .entry)) at count)) ⌝ }
-    ensures { λ r. ⌜ LaidAfter (now (given .entry)) (now (dumps .entry)) (now (inputs .entry)) (now (replies .entry)) minimise r (now (result .exit)) (take at (now (scratch .exit))) ⌝ }
+    ensures { λ r. ⌜ WalksTo (now (given .entry)) (inputsIn (now (given .entry)) (now (call .entry))) (repliesIn (now (given .entry)) (now (call .entry))) (now (result .entry)) (take at (now (scratch .entry))) walk r (now (result .exit)) (take at (now (scratch .exit))) (λ σ. visitAll (tableOf (now (given .entry))) (waysBy (now (given .entry)) (now (dumps .entry)) (now (call .entry))) σ (entriesOf (now (scratch .entry)) at count)) ⌝ }
+    ensures { λ r. ⌜ LaidAfter (now (given .entry)) (now (dumps .entry)) (inputsIn (now (given .entry)) (now (call .entry))) (repliesIn (now (given .entry)) (now (call .entry))) (minimiseIn (now (call .entry))) r (now (result .exit)) (take at (now (scratch .exit))) ⌝ }
     ensures { λ r. ⌜ drop at (now (scratch .exit)) ≡ drop at (now (scratch .entry)) ⌝ }
 {
     let mut walk = walk;
     let mut i = 0;
     while i < count {
         let node = number(scratch[at + i]);
-        let visited = visit_in(
-            given,
-            inputs,
-            replies,
-            dumps,
-            result,
-            scratch,
-            minimise,
-            at,
-            walk,
-            node,
-        );
+        let visited = visit_in(given, result, scratch, dumps, call, at, walk, node);
         match visited {
             Visited::Done(after, _) => {
                 walk = after;

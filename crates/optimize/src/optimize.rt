@@ -10,6 +10,7 @@ use tables::sections::Sections;
 ghost use mathlib.Core.Path.{_≡_};
 ghost use Prim.Native.Nat.{_<_};
 ghost use lib.ListN.{length, replicate};
+ghost use lib.Dec.{eqb};
 ghost use Rattle.rules.specs.Limits.{house, adds, modeOf};
 ghost use Rattle.rules.specs.Call.{left, optimizeModelImpl, optimizeModelWithSolver, optimizeModelWithInput};
 ghost use Rattle.tables.specs.Judging.{callWith};
@@ -53,6 +54,13 @@ fn replies_end(entry: Entry, replies: Part) -> usize
     }
 }
 
+// 1 for true, 0 for false.
+fn as_word(truth: bool) -> usize
+    ensures { λ r. ⌜ eqb r 1 ≡ truth ⌝ }
+{
+    if truth { 1 } else { 0 }
+}
+
 // Scratch is 0 after each call, and result after a refusal.
 fn finish_call(outcome: Optimized, result: &mut [u64], scratch: &mut [u64]) -> Optimized
     ensures { λ r. ⌜ r ≡ outcome ⌝ }
@@ -72,7 +80,7 @@ fn finish_call(outcome: Optimized, result: &mut [u64], scratch: &mut [u64]) -> O
 // Folds the parts of cut words; inputs and replies end at the two places.
 fn fold_parts(
     words: &[u64],
-    dumps: &[u8],
+    dumps: &[u8; 4097],
     sections: Sections,
     inputs_to: usize,
     replies_to: usize,
@@ -92,19 +100,24 @@ fn fold_parts(
     let later_to = sections.later.end;
     let inputs = sections.inputs.start;
     let replies = sections.replies.start;
+    let call = [
+        inputs,
+        inputs_to,
+        replies,
+        replies_to,
+        as_word(adds(mode, 1)),
+    ];
     run(
         words,
-        dumps,
         &words[sequentials..sequentials_to],
         &words[initial..initial_to],
         &words[later..later_to],
-        &words[inputs..inputs_to],
-        &words[replies..replies_to],
         adds(mode, 2),
         adds(mode, 4),
-        adds(mode, 1),
         result,
         scratch,
+        dumps,
+        &call,
     )
 }
 

@@ -5,9 +5,9 @@ use crate::bads::judge_bads;
 use crate::beginning::begin;
 use crate::beginning::untouched;
 use crate::buffers::node_count;
-use crate::ending::write_run;
+use crate::ending::write_call;
 use crate::last_question::Answered;
-use crate::last_question::last_question;
+use crate::last_question::put_last_question;
 use crate::lists::visit_all;
 use crate::result::Kept;
 use crate::result::Sizes;
@@ -25,27 +25,26 @@ ghost use Rattle.rules.specs.Whole.{foldBads};
 ghost use Rattle.optimize.specs.View.{countOf, view};
 ghost use Rattle.optimize.specs.ResultView.{listsAt};
 ghost use Rattle.optimize.specs.Lists.{entriesOf};
+ghost use Rattle.optimize.specs.CallWords.{inputsIn, repliesIn, minimiseIn};
 ghost use Rattle.optimize.specs.Runs.{modelIn, modeIn, Runnable, Underway, Ends, Runs};
 
 // Judges the initial bads, then the sequential bads, and writes the result.
 fn fold_bads(
     given: &[u64],
-    dumps: &[u8],
     sequentials: &[u64],
     initial: &[u64],
     later: &[u64],
-    inputs: &[u64],
-    replies: &[u64],
     terminate: bool,
-    minimise: bool,
     result: &mut [u64],
     scratch: &mut [u64],
+    dumps: &[u8; 4097],
+    call: &[usize; 5],
     at: usize,
     kept: usize,
     walk: Walk,
 ) -> Optimized
-    requires { ⌜ Underway (now given) (now dumps) (now sequentials) (now initial) (now later) (now inputs) (now replies) minimise (now result) (now scratch) walk at kept ⌝ }
-    ensures { λ r. ⌜ ((h : List Held) → Ends (modelIn (now (given .entry)) (now (dumps .entry)) (now (sequentials .entry)) (now (initial .entry)) (now (later .entry)) (now (inputs .entry)) (now (replies .entry))) (foldBads (modelIn (now (given .entry)) (now (dumps .entry)) (now (sequentials .entry)) (now (initial .entry)) (now (later .entry)) (now (inputs .entry)) (now (replies .entry))) (modeIn minimise terminate false) false (view h (now (given .entry)) (now (inputs .entry)) (now (replies .entry)) (now (result .entry)) (take at (now (scratch .entry))) walk) (entriesOf (now (scratch .entry)) at kept)) (length (now (result .entry))) r (now (result .exit))) ⌝ }
+    requires { ⌜ Underway (now given) (now dumps) (now sequentials) (now initial) (now later) (inputsIn (now given) (now call)) (repliesIn (now given) (now call)) (minimiseIn (now call)) (now result) (now scratch) walk at kept ⌝ }
+    ensures { λ r. ⌜ ((h : List Held) → Ends (modelIn (now (given .entry)) (now (dumps .entry)) (now (sequentials .entry)) (now (initial .entry)) (now (later .entry)) (inputsIn (now (given .entry)) (now (call .entry))) (repliesIn (now (given .entry)) (now (call .entry)))) (foldBads (modelIn (now (given .entry)) (now (dumps .entry)) (now (sequentials .entry)) (now (initial .entry)) (now (later .entry)) (inputsIn (now (given .entry)) (now (call .entry))) (repliesIn (now (given .entry)) (now (call .entry)))) (modeIn (minimiseIn (now (call .entry))) terminate false) false (view h (now (given .entry)) (inputsIn (now (given .entry)) (now (call .entry))) (repliesIn (now (given .entry)) (now (call .entry))) (now (result .entry)) (take at (now (scratch .entry))) walk) (entriesOf (now (scratch .entry)) at kept)) (length (now (result .entry))) r (now (result .exit))) ⌝ }
 {
     let second = at + sequentials.len();
     let third = second + initial.len();
@@ -56,13 +55,11 @@ fn fold_bads(
     };
     let first = judge_bads(
         given,
-        inputs,
-        replies,
-        dumps,
         initial,
         result,
         scratch,
-        minimise,
+        dumps,
+        call,
         how,
         at,
         second,
@@ -78,13 +75,11 @@ fn fold_bads(
             };
             let last = judge_bads(
                 given,
-                inputs,
-                replies,
-                dumps,
                 later,
                 result,
                 scratch,
-                minimise,
+                dumps,
+                call,
                 then,
                 at,
                 third,
@@ -103,17 +98,7 @@ fn fold_bads(
                         initial: initial.len(),
                         later: later.len(),
                     };
-                    Optimized::Done(write_run(
-                        given,
-                        inputs,
-                        replies,
-                        result,
-                        scratch,
-                        end,
-                        lists,
-                        sizes,
-                        0,
-                    ))
+                    Optimized::Done(write_call(given, call, result, scratch, end, lists, sizes, 0))
                 }
             }
         }
@@ -123,22 +108,20 @@ fn fold_bads(
 // One-query: judges the initial bads, puts the last question, keeps the sequential bads as given, and writes the result.
 fn fold_once(
     given: &[u64],
-    dumps: &[u8],
     sequentials: &[u64],
     initial: &[u64],
     later: &[u64],
-    inputs: &[u64],
-    replies: &[u64],
     terminate: bool,
-    minimise: bool,
     result: &mut [u64],
     scratch: &mut [u64],
+    dumps: &[u8; 4097],
+    call: &[usize; 5],
     at: usize,
     kept: usize,
     walk: Walk,
 ) -> Optimized
-    requires { ⌜ Underway (now given) (now dumps) (now sequentials) (now initial) (now later) (now inputs) (now replies) minimise (now result) (now scratch) walk at kept ⌝ }
-    ensures { λ r. ⌜ ((h : List Held) → Ends (modelIn (now (given .entry)) (now (dumps .entry)) (now (sequentials .entry)) (now (initial .entry)) (now (later .entry)) (now (inputs .entry)) (now (replies .entry))) (foldBads (modelIn (now (given .entry)) (now (dumps .entry)) (now (sequentials .entry)) (now (initial .entry)) (now (later .entry)) (now (inputs .entry)) (now (replies .entry))) (modeIn minimise terminate true) true (view h (now (given .entry)) (now (inputs .entry)) (now (replies .entry)) (now (result .entry)) (take at (now (scratch .entry))) walk) (entriesOf (now (scratch .entry)) at kept)) (length (now (result .entry))) r (now (result .exit))) ⌝ }
+    requires { ⌜ Underway (now given) (now dumps) (now sequentials) (now initial) (now later) (inputsIn (now given) (now call)) (repliesIn (now given) (now call)) (minimiseIn (now call)) (now result) (now scratch) walk at kept ⌝ }
+    ensures { λ r. ⌜ ((h : List Held) → Ends (modelIn (now (given .entry)) (now (dumps .entry)) (now (sequentials .entry)) (now (initial .entry)) (now (later .entry)) (inputsIn (now (given .entry)) (now (call .entry))) (repliesIn (now (given .entry)) (now (call .entry)))) (foldBads (modelIn (now (given .entry)) (now (dumps .entry)) (now (sequentials .entry)) (now (initial .entry)) (now (later .entry)) (inputsIn (now (given .entry)) (now (call .entry))) (repliesIn (now (given .entry)) (now (call .entry)))) (modeIn (minimiseIn (now (call .entry))) terminate true) true (view h (now (given .entry)) (inputsIn (now (given .entry)) (now (call .entry))) (repliesIn (now (given .entry)) (now (call .entry))) (now (result .entry)) (take at (now (scratch .entry))) walk) (entriesOf (now (scratch .entry)) at kept)) (length (now (result .entry))) r (now (result .exit))) ⌝ }
 {
     let second = at + sequentials.len();
     let third = second + initial.len();
@@ -149,13 +132,11 @@ fn fold_once(
     };
     let first = judge_bads(
         given,
-        inputs,
-        replies,
-        dumps,
         initial,
         result,
         scratch,
-        minimise,
+        dumps,
+        call,
         how,
         at,
         second,
@@ -164,7 +145,7 @@ fn fold_once(
     match first {
         Judged::Refused(refusal) => Optimized::Refused(refusal),
         Judged::Done(after, staying) => {
-            let last = last_question(given, replies, scratch, at, second, staying, after);
+            let last = put_last_question(given, call, scratch, at, second, staying, after);
             match last {
                 Answered::Refused(refusal) => Optimized::Refused(refusal),
                 Answered::Done(end, verdict) => {
@@ -179,10 +160,9 @@ fn fold_once(
                         initial: initial.len(),
                         later: later.len(),
                     };
-                    Optimized::Done(write_run(
+                    Optimized::Done(write_call(
                         given,
-                        inputs,
-                        replies,
+                        call,
                         result,
                         scratch,
                         end,
@@ -208,51 +188,36 @@ fn lists_at(given: &[u64], bads: usize) -> usize
 // Folds a model: its sequentials, initial bads and sequential bads; the result is written whole.
 pub(crate) fn run(
     given: &[u64],
-    dumps: &[u8],
     sequentials: &[u64],
     initial: &[u64],
     later: &[u64],
-    inputs: &[u64],
-    replies: &[u64],
     terminate: bool,
     one_query: bool,
-    minimise: bool,
     result: &mut [u64],
     scratch: &mut [u64],
+    dumps: &[u8; 4097],
+    call: &[usize; 5],
 ) -> Optimized
-    requires { ⌜ Runnable (now given) (now dumps) (now sequentials) (now initial) (now later) (now inputs) (now replies) (length (now result)) (length (now scratch)) ⌝ }
-    ensures { λ r. ⌜ Runs (modelIn (now (given .entry)) (now (dumps .entry)) (now (sequentials .entry)) (now (initial .entry)) (now (later .entry)) (now (inputs .entry)) (now (replies .entry))) (modeIn minimise terminate «one_query») (length (now (result .entry))) r (now (result .exit)) ⌝ }
+    requires { ⌜ Runnable (now given) (now dumps) (now sequentials) (now initial) (now later) (inputsIn (now given) (now call)) (repliesIn (now given) (now call)) (length (now result)) (length (now scratch)) ⌝ }
+    ensures { λ r. ⌜ Runs (modelIn (now (given .entry)) (now (dumps .entry)) (now (sequentials .entry)) (now (initial .entry)) (now (later .entry)) (inputsIn (now (given .entry)) (now (call .entry))) (repliesIn (now (given .entry)) (now (call .entry)))) (modeIn (minimiseIn (now (call .entry))) terminate «one_query») (length (now (result .entry))) r (now (result .exit)) ⌝ }
 {
     let at = lists_at(given, initial.len() + later.len());
     let kept = begin(given, sequentials, result, scratch, at);
-    let walked = visit_all(
-        given,
-        inputs,
-        replies,
-        dumps,
-        result,
-        scratch,
-        minimise,
-        at,
-        kept,
-        untouched(),
-    );
+    let walked = visit_all(given, result, scratch, dumps, call, at, kept, untouched());
     match walked {
         Walked::Refused(refusal) => Optimized::Refused(refusal),
         Walked::Done(walk) => {
             if one_query {
                 return fold_once(
                     given,
-                    dumps,
                     sequentials,
                     initial,
                     later,
-                    inputs,
-                    replies,
                     terminate,
-                    minimise,
                     result,
                     scratch,
+                    dumps,
+                    call,
                     at,
                     kept,
                     walk,
@@ -260,16 +225,14 @@ pub(crate) fn run(
             }
             fold_bads(
                 given,
-                dumps,
                 sequentials,
                 initial,
                 later,
-                inputs,
-                replies,
                 terminate,
-                minimise,
                 result,
                 scratch,
+                dumps,
+                call,
                 at,
                 kept,
                 walk,

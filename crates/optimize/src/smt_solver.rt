@@ -1,31 +1,28 @@
 // The questions of SMTSolver; the replies of the call stand in place of a solver.
 use crate::buffers::node_count;
 use crate::buffers::wide;
+use crate::counters::asked_one;
+use crate::counters::is_refused;
+use crate::counters::put_walk;
+use crate::counters::refusal_in;
+use crate::counters::refuse;
+use crate::counters::walk_in;
 use crate::fold::Folded;
 use crate::walk::Walk;
 use tables::refusal::Refusal;
 ghost use Prim.Native.Nat.{ℕ, _+_, _*_, _<_, _≤_};
 ghost use mathlib.Core.Path.{_≡_};
 ghost use mathlib.Core.List.{List, []};
-ghost use lib.ListN.{length, drop};
+ghost use lib.ListN.{length, getD, drop};
 ghost use Rattle.rules.specs.Walk.{Held};
 ghost use Rattle.rules.specs.Questions.{ask, askOr, askBit, quiet, firstReply, otherReplies, most};
 ghost use Rattle.optimize.specs.View.{countOf, foldIs, view};
-ghost use Rattle.optimize.specs.Process.{askedOf, solvedOf, isStays, thenAsk};
-ghost use Rattle.optimize.specs.declared.walk.Walk.{Walk};
-ghost use Rattle.optimize.specs.declared.fold.Folded.{Folded};
-ghost use Rattle.optimize.specs.declared.smt_solver.Asked.{Asked};
-ghost use Rattle.optimize.specs.declared.smt_solver.Solved.{Solved};
+ghost use Rattle.optimize.specs.Counters.{walkIn, Going};
+ghost use Rattle.optimize.specs.Process.{askedOf, askedBy, solvedOf, isStays, thenAsk};
 
 // The reply that a question took.
 pub(crate) enum Asked {
     Reply(Walk, u64),
-    Refused(Refusal),
-}
-
-// What a chain of questions about a node gave.
-pub(crate) enum Solved {
-    Go(Walk, Folded),
     Refused(Refusal),
 }
 
@@ -65,8 +62,41 @@ pub(crate) fn is_stays(fold: Folded) -> bool
     }
 }
 
-// Puts a question: 1 always true, 2 always false, 3 equal, 4 satisfiable, 5 always false of several.
+// Puts a question: 1 always true, 2 always false, 3 equal, 4 satisfiable, 5 always false of several. Answers the reply that it took.
 pub(crate) fn ask(
+    given: &[u64],
+    replies: &[u64],
+    scratch: &mut [u64],
+    counters: &mut [usize; 9],
+    kind: u64,
+    first: usize,
+    second: usize,
+) -> u64
+    requires { ⌜ (0 < length (now given)) × (countOf (now given) ≤ 4096) ⌝ }
+    requires { ⌜ 2 * countOf (now given) + 4 * (getD (now counters) 3 0 + 1) ≤ length (now scratch) ⌝ }
+    requires { ⌜ Going (now counters) ⌝ }
+    ensures { λ r. ⌜ ((h : List Held) (inputs R : List ℕ) → askedBy h (now (given .entry)) inputs (now (replies .entry)) r (now (counters .exit)) R (now (scratch .exit)) ≡ ask (length (now (replies .entry))) (view h (now (given .entry)) inputs (now (replies .entry)) R (now (scratch .entry)) (walkIn (now (counters .entry)))) kind first second []) ⌝ }
+    ensures { λ _. ⌜ (getD (now (counters .exit)) 0 0 ≡ getD (now (counters .entry)) 0 0) × (getD (now (counters .exit)) 3 0 ≤ getD (now (counters .entry)) 3 0 + 1) ⌝ }
+{
+    let n = node_count(given);
+    let used = counters[2];
+    let reply = reply_at(replies, used);
+    let most = most_of(kind);
+    if most < reply {
+        refuse(Refusal::Reply(used), counters);
+        return reply;
+    }
+    let at = 2 * n + 4 * counters[3];
+    scratch[at] = kind;
+    scratch[at + 1] = wide(first);
+    scratch[at + 2] = wide(second);
+    scratch[at + 3] = reply;
+    asked_one(counters, used_then(replies, used));
+    reply
+}
+
+// The same, where the walk is handed on and not lent.
+pub(crate) fn ask_at(
     given: &[u64],
     replies: &[u64],
     scratch: &mut [u64],
@@ -78,33 +108,21 @@ pub(crate) fn ask(
     requires { ⌜ (0 < length (now given)) × (countOf (now given) ≤ 4096) ⌝ }
     requires { ⌜ 2 * countOf (now given) + 4 * (walk .asked + 1) ≤ length (now scratch) ⌝ }
     ensures { λ r. ⌜ ((h : List Held) (inputs R : List ℕ) → askedOf h (now (given .entry)) inputs (now (replies .entry)) r R (now (scratch .exit)) ≡ ask (length (now (replies .entry))) (view h (now (given .entry)) inputs (now (replies .entry)) R (now (scratch .entry)) walk) kind first second []) ⌝ }
-    ensures { λ r. ⌜ ((w : Walk) (a : ℕ) → r ≡ Asked.Reply w a → (w .made ≡ walk .made) × (w .asked ≡ walk .asked + 1)) ⌝ }
 {
-    let n = node_count(given);
-    let used = walk.used;
-    let reply = reply_at(replies, used);
-    let most = most_of(kind);
-    if most < reply {
-        return Asked::Refused(Refusal::Reply(used));
+    let mut counters = [0usize; 9];
+    put_walk(walk, &mut counters);
+    let reply = ask(given, replies, scratch, &mut counters, kind, first, second);
+    asked_in(reply, &counters)
+}
+
+// What a question that answered `reply` came to.
+fn asked_in(reply: u64, counters: &[usize; 9]) -> Asked
+    ensures { λ r. ⌜ ((h : List Held) (g inputs replies R S : List ℕ) → askedOf h g inputs replies r R S ≡ askedBy h g inputs replies reply (now (counters .entry)) R S) ⌝ }
+{
+    if is_refused(counters) {
+        return Asked::Refused(refusal_in(counters));
     }
-    let then = used_then(replies, used);
-    let asked = walk.asked;
-    let at = 2 * n + 4 * asked;
-    scratch[at] = kind;
-    scratch[at + 1] = wide(first);
-    scratch[at + 2] = wide(second);
-    scratch[at + 3] = reply;
-    Asked::Reply(
-        Walk {
-            made: walk.made,
-            taken: walk.taken,
-            used: then,
-            asked: asked + 1,
-            looked: walk.looked,
-            passed: walk.passed,
-        },
-        reply,
-    )
+    Asked::Reply(walk_in(counters), reply)
 }
 
 // A question about a node that stays, where a yes gives the fold.
@@ -112,28 +130,23 @@ pub(crate) fn ask_or(
     given: &[u64],
     replies: &[u64],
     scratch: &mut [u64],
-    walk: Walk,
+    counters: &mut [usize; 9],
     kind: u64,
     first: usize,
     second: usize,
     fold: Folded,
-) -> Solved
+) -> Folded
     requires { ⌜ (0 < length (now given)) × (countOf (now given) ≤ 4096) ⌝ }
-    requires { ⌜ 2 * countOf (now given) + 4 * (walk .asked + 1) ≤ length (now scratch) ⌝ }
-    ensures { λ r. ⌜ ((h : List Held) (inputs R : List ℕ) → solvedOf h (now (given .entry)) inputs (now (replies .entry)) r R (now (scratch .exit)) ≡ askOr (length (now (replies .entry))) kind first second (foldIs fold) quiet (view h (now (given .entry)) inputs (now (replies .entry)) R (now (scratch .entry)) walk)) ⌝ }
-    ensures { λ r. ⌜ ((w : Walk) (f : Folded) → r ≡ Solved.Go w f → (w .made ≡ walk .made) × (w .asked ≡ walk .asked + 1)) ⌝ }
+    requires { ⌜ 2 * countOf (now given) + 4 * (getD (now counters) 3 0 + 1) ≤ length (now scratch) ⌝ }
+    requires { ⌜ Going (now counters) ⌝ }
+    ensures { λ r. ⌜ ((h : List Held) (inputs R : List ℕ) → solvedOf h (now (given .entry)) inputs (now (replies .entry)) r (now (counters .exit)) R (now (scratch .exit)) ≡ askOr (length (now (replies .entry))) kind first second (foldIs fold) quiet (view h (now (given .entry)) inputs (now (replies .entry)) R (now (scratch .entry)) (walkIn (now (counters .entry))))) ⌝ }
+    ensures { λ _. ⌜ (getD (now (counters .exit)) 0 0 ≡ getD (now (counters .entry)) 0 0) × (getD (now (counters .exit)) 3 0 ≤ getD (now (counters .entry)) 3 0 + 1) ⌝ }
 {
-    let asked = ask(given, replies, scratch, walk, kind, first, second);
-    match asked {
-        Asked::Reply(after, reply) => {
-            if reply == 1 {
-                Solved::Go(after, fold)
-            } else {
-                Solved::Go(after, Folded::Stays)
-            }
-        }
-        Asked::Refused(refusal) => Solved::Refused(refusal),
+    let reply = ask(given, replies, scratch, counters, kind, first, second);
+    if reply == 1 {
+        return fold;
     }
+    Folded::Stays
 }
 
 // One more question, where those before it had no yes.
@@ -141,24 +154,25 @@ pub(crate) fn then_ask(
     given: &[u64],
     replies: &[u64],
     scratch: &mut [u64],
-    solved: Solved,
+    counters: &mut [usize; 9],
+    before: Folded,
     kind: u64,
     first: usize,
     second: usize,
     fold: Folded,
-) -> Solved
+) -> Folded
     requires { ⌜ (0 < length (now given)) × (countOf (now given) ≤ 4096) ⌝ }
-    requires { ⌜ ((w : Walk) (f : Folded) → solved ≡ Solved.Go w f → 2 * countOf (now given) + 4 * (w .asked + 1) ≤ length (now scratch)) ⌝ }
-    ensures { λ r. ⌜ ((h : List Held) (inputs R : List ℕ) → solvedOf h (now (given .entry)) inputs (now (replies .entry)) r R (now (scratch .exit)) ≡ thenAsk (length (now (replies .entry))) kind first second (foldIs fold) (solvedOf h (now (given .entry)) inputs (now (replies .entry)) solved R (now (scratch .entry)))) ⌝ }
-    ensures { λ r. ⌜ ((m a : ℕ) → ((w : Walk) (f : Folded) → solved ≡ Solved.Go w f → (w .made ≡ m) × (w .asked ≤ a)) → (w : Walk) (f : Folded) → r ≡ Solved.Go w f → (w .made ≡ m) × (w .asked ≤ a + 1)) ⌝ }
+    requires { ⌜ 2 * countOf (now given) + 4 * (getD (now counters) 3 0 + 1) ≤ length (now scratch) ⌝ }
+    ensures { λ r. ⌜ ((h : List Held) (inputs R : List ℕ) → solvedOf h (now (given .entry)) inputs (now (replies .entry)) r (now (counters .exit)) R (now (scratch .exit)) ≡ thenAsk (length (now (replies .entry))) kind first second (foldIs fold) (solvedOf h (now (given .entry)) inputs (now (replies .entry)) before (now (counters .entry)) R (now (scratch .entry)))) ⌝ }
+    ensures { λ _. ⌜ (getD (now (counters .exit)) 0 0 ≡ getD (now (counters .entry)) 0 0) × (getD (now (counters .exit)) 3 0 ≤ getD (now (counters .entry)) 3 0 + 1) ⌝ }
 {
-    let Solved::Go(walk, before) = solved else {
-        return solved;
-    };
-    if !is_stays(before) {
-        return solved;
+    if is_refused(counters) {
+        return before;
     }
-    ask_or(given, replies, scratch, walk, kind, first, second, fold)
+    if !is_stays(before) {
+        return before;
+    }
+    ask_or(given, replies, scratch, counters, kind, first, second, fold)
 }
 
 // Asks whether a node is always true, then whether it is always false.
@@ -166,24 +180,35 @@ pub(crate) fn ask_bit(
     given: &[u64],
     replies: &[u64],
     scratch: &mut [u64],
-    walk: Walk,
+    counters: &mut [usize; 9],
     node: usize,
-) -> Solved
+) -> Folded
     requires { ⌜ (0 < length (now given)) × (countOf (now given) ≤ 4096) ⌝ }
-    requires { ⌜ 2 * countOf (now given) + 4 * (walk .asked + 2) ≤ length (now scratch) ⌝ }
-    ensures { λ r. ⌜ ((h : List Held) (inputs R : List ℕ) → solvedOf h (now (given .entry)) inputs (now (replies .entry)) r R (now (scratch .exit)) ≡ askBit (length (now (replies .entry))) (countOf (now (given .entry))) node quiet (view h (now (given .entry)) inputs (now (replies .entry)) R (now (scratch .entry)) walk)) ⌝ }
-    ensures { λ r. ⌜ ((w : Walk) (f : Folded) → r ≡ Solved.Go w f → (w .made ≡ walk .made) × (w .asked ≤ walk .asked + 2)) ⌝ }
+    requires { ⌜ 2 * countOf (now given) + 4 * (getD (now counters) 3 0 + 2) ≤ length (now scratch) ⌝ }
+    requires { ⌜ Going (now counters) ⌝ }
+    ensures { λ r. ⌜ ((h : List Held) (inputs R : List ℕ) → solvedOf h (now (given .entry)) inputs (now (replies .entry)) r (now (counters .exit)) R (now (scratch .exit)) ≡ askBit (length (now (replies .entry))) (countOf (now (given .entry))) node quiet (view h (now (given .entry)) inputs (now (replies .entry)) R (now (scratch .entry)) (walkIn (now (counters .entry))))) ⌝ }
+    ensures { λ _. ⌜ (getD (now (counters .exit)) 0 0 ≡ getD (now (counters .entry)) 0 0) × (getD (now (counters .exit)) 3 0 ≤ getD (now (counters .entry)) 3 0 + 2) ⌝ }
 {
     let n = node_count(given);
     let first = ask_or(
         given,
         replies,
         scratch,
-        walk,
+        counters,
         1,
         node,
         0,
         Folded::Swap(n + 1),
     );
-    then_ask(given, replies, scratch, first, 2, node, 0, Folded::Swap(n))
+    then_ask(
+        given,
+        replies,
+        scratch,
+        counters,
+        first,
+        2,
+        node,
+        0,
+        Folded::Swap(n),
+    )
 }

@@ -7,12 +7,11 @@ use crate::buffers::number;
 use crate::buffers::operand;
 use crate::buffers::put_row;
 use crate::buffers::word;
+use crate::call_words::inputs_in;
 use crate::counters::is_refused;
-use crate::counters::keep;
 use crate::counters::put_walk;
 use crate::counters::refuse;
 use crate::counters::visited_in;
-use crate::counters::walk_in;
 use crate::fold::Folded;
 use crate::form::Choice;
 use crate::form::Form;
@@ -34,9 +33,9 @@ ghost use lib.ListN.{length};
 ghost use Rattle.rules.specs.Table.{kindOf};
 ghost use Rattle.rules.specs.Walk.{fresh};
 ghost use Rattle.tables.specs.NodeAnswers.{kindIs};
-ghost use Rattle.optimize.specs.View.{countOf, wordOf, markOf, waysIn};
+ghost use Rattle.optimize.specs.View.{countOf, wordOf, markOf};
 ghost use Rattle.optimize.specs.Process.{formOf, hasReplacement, visitOf, processOf, oneOf, twoOf, threeOf, leftOf, rightOf, bothOf, iteOf, valueOf, stepOf};
-ghost use Rattle.optimize.specs.Laid.{Laid, Visits};
+ghost use Rattle.optimize.specs.CallWords.{LaidBy, VisitsBy, waysBy};
 ghost use Rattle.optimize.specs.Counters.{walkIn, Going, answerIn};
 ghost use Rattle.optimize.specs.declared.form.Form.{Form};
 
@@ -51,33 +50,21 @@ fn is_replaced(given: &[u64], scratch: &[u64], node: usize) -> bool
 // Visits a node: processes it the first time, and later gives what was recorded.
 fn visit(
     given: &[u64],
-    inputs: &[u64],
-    replies: &[u64],
-    dumps: &[u8],
     result: &mut [u64],
     scratch: &mut [u64],
-    minimise: bool,
+    dumps: &[u8; 4097],
+    call: &[usize; 5],
     counters: &mut [usize; 9],
     node: usize,
 ) -> usize
-    requires { ⌜ Laid (now given) (now dumps) (now inputs) (now replies) minimise (now result) (now scratch) (walkIn (now counters)) ⌝ }
+    requires { ⌜ LaidBy (now given) (now dumps) (now call) (now result) (now scratch) (walkIn (now counters)) ⌝ }
     requires { ⌜ node < countOf (now given) ⌝ }
     requires { ⌜ Going (now counters) ⌝ }
-    ensures { λ r. ⌜ Visits (now (given .entry)) (now (inputs .entry)) (now (replies .entry)) (now (result .entry)) (now (scratch .entry)) (walkIn (now (counters .entry))) (answerIn r (now (counters .exit))) (now (result .exit)) (now (scratch .exit)) (node + 1) (λ f σ. visitOf (now (given .entry)) (waysIn (now (dumps .entry)) minimise (now (replies .entry))) f σ node) ⌝ }
+    ensures { λ r. ⌜ VisitsBy (now (given .entry)) (now (call .entry)) (now (result .entry)) (now (scratch .entry)) (walkIn (now (counters .entry))) (answerIn r (now (counters .exit))) (now (result .exit)) (now (scratch .exit)) (node + 1) (λ f σ. visitOf (now (given .entry)) (waysBy (now (given .entry)) (now (dumps .entry)) (now (call .entry))) f σ node) ⌝ }
 {
     let mark = scratch[node];
     if mark == 0 {
-        return process(
-            given,
-            inputs,
-            replies,
-            dumps,
-            result,
-            scratch,
-            minimise,
-            counters,
-            node,
-        );
+        return process(given, result, scratch, dumps, call, counters, node);
     }
     if mark == 1 {
         return node;
@@ -89,139 +76,65 @@ fn visit(
 // Rewrites a node, by its form.
 fn process(
     given: &[u64],
-    inputs: &[u64],
-    replies: &[u64],
-    dumps: &[u8],
     result: &mut [u64],
     scratch: &mut [u64],
-    minimise: bool,
+    dumps: &[u8; 4097],
+    call: &[usize; 5],
     counters: &mut [usize; 9],
     node: usize,
 ) -> usize
-    requires { ⌜ Laid (now given) (now dumps) (now inputs) (now replies) minimise (now result) (now scratch) (walkIn (now counters)) ⌝ }
+    requires { ⌜ LaidBy (now given) (now dumps) (now call) (now result) (now scratch) (walkIn (now counters)) ⌝ }
     requires { ⌜ node < countOf (now given) ⌝ }
     requires { ⌜ markOf (countOf (now given)) (now scratch) node ≡ fresh ⌝ }
     requires { ⌜ Going (now counters) ⌝ }
-    ensures { λ r. ⌜ Visits (now (given .entry)) (now (inputs .entry)) (now (replies .entry)) (now (result .entry)) (now (scratch .entry)) (walkIn (now (counters .entry))) (answerIn r (now (counters .exit))) (now (result .exit)) (now (scratch .exit)) node (λ f σ. processOf (now (given .entry)) (waysIn (now (dumps .entry)) minimise (now (replies .entry))) f σ node) ⌝ }
+    ensures { λ r. ⌜ VisitsBy (now (given .entry)) (now (call .entry)) (now (result .entry)) (now (scratch .entry)) (walkIn (now (counters .entry))) (answerIn r (now (counters .exit))) (now (result .exit)) (now (scratch .exit)) node (λ f σ. processOf (now (given .entry)) (waysBy (now (given .entry)) (now (dumps .entry)) (now (call .entry))) f σ node) ⌝ }
 {
     let kind = kind_at(given, node);
     let form = form_of(kind, word(given, node, 3));
     match form {
-        Form::Constant => keep(
-            settle_const(given, result, scratch, walk_in(counters), node),
-            counters,
-        ),
-        Form::Given => keep(
-            settle(
-                given,
-                result,
-                scratch,
-                walk_in(counters),
-                node,
-                Folded::Stays,
-            ),
-            counters,
-        ),
-        Form::Free => keep(
-            take_input(
-                given,
-                inputs,
-                dumps,
-                result,
-                scratch,
-                walk_in(counters),
-                node,
-            ),
-            counters,
-        ),
-        Form::One => process_one(
+        Form::Constant => settle_const(given, result, scratch, counters, node),
+        Form::Given => settle(given, result, scratch, counters, node, Folded::Stays),
+        Form::Free => take_input(
             given,
-            inputs,
-            replies,
-            dumps,
+            inputs_in(given, call),
             result,
             scratch,
-            minimise,
-            counters,
-            node,
-            kind,
-        ),
-        Form::Two => process_two(
-            given,
-            inputs,
-            replies,
             dumps,
-            result,
-            scratch,
-            minimise,
-            counters,
-            node,
-            kind,
-        ),
-        Form::Three => process_three(
-            given,
-            inputs,
-            replies,
-            dumps,
-            result,
-            scratch,
-            minimise,
             counters,
             node,
         ),
-        Form::Choice => process_ite(
-            given,
-            inputs,
-            replies,
-            dumps,
-            result,
-            scratch,
-            minimise,
-            counters,
-            node,
-        ),
-        Form::Step => process_next(
-            given,
-            inputs,
-            replies,
-            dumps,
-            result,
-            scratch,
-            minimise,
-            counters,
-            node,
-        ),
+        Form::One => process_one(given, result, scratch, dumps, call, counters, node, kind),
+        Form::Two => process_two(given, result, scratch, dumps, call, counters, node, kind),
+        Form::Three => process_three(given, result, scratch, dumps, call, counters, node),
+        Form::Choice => process_ite(given, result, scratch, dumps, call, counters, node),
+        Form::Step => process_next(given, result, scratch, dumps, call, counters, node),
     }
 }
 
 // A node of one operand: Ext, Not, Bad, a State with an init.
 fn process_one(
     given: &[u64],
-    inputs: &[u64],
-    replies: &[u64],
-    dumps: &[u8],
     result: &mut [u64],
     scratch: &mut [u64],
-    minimise: bool,
+    dumps: &[u8; 4097],
+    call: &[usize; 5],
     counters: &mut [usize; 9],
     node: usize,
     kind: NodeKind,
 ) -> usize
-    requires { ⌜ Laid (now given) (now dumps) (now inputs) (now replies) minimise (now result) (now scratch) (walkIn (now counters)) ⌝ }
+    requires { ⌜ LaidBy (now given) (now dumps) (now call) (now result) (now scratch) (walkIn (now counters)) ⌝ }
     requires { ⌜ node < countOf (now given) ⌝ }
     requires { ⌜ markOf (countOf (now given)) (now scratch) node ≡ fresh ⌝ }
     requires { ⌜ wordOf (now given) node 2 < node ⌝ }
     requires { ⌜ Going (now counters) ⌝ }
-    ensures { λ r. ⌜ Visits (now (given .entry)) (now (inputs .entry)) (now (replies .entry)) (now (result .entry)) (now (scratch .entry)) (walkIn (now (counters .entry))) (answerIn r (now (counters .exit))) (now (result .exit)) (now (scratch .exit)) node (λ f σ. oneOf (now (given .entry)) (waysIn (now (dumps .entry)) minimise (now (replies .entry))) f (kindIs kind) σ node) ⌝ }
+    ensures { λ r. ⌜ VisitsBy (now (given .entry)) (now (call .entry)) (now (result .entry)) (now (scratch .entry)) (walkIn (now (counters .entry))) (answerIn r (now (counters .exit))) (now (result .exit)) (now (scratch .exit)) node (λ f σ. oneOf (now (given .entry)) (waysBy (now (given .entry)) (now (dumps .entry)) (now (call .entry))) f (kindIs kind) σ node) ⌝ }
 {
     let x = visit(
         given,
-        inputs,
-        replies,
-        dumps,
         result,
         scratch,
-        minimise,
+        dumps,
+        call,
         counters,
         operand(given, node, 2),
     );
@@ -236,26 +149,21 @@ fn process_one(
         operand(given, node, 3),
         operand(given, node, 4),
     );
-    keep(
-        after_one(given, result, scratch, walk_in(counters), node, kind, x),
-        counters,
-    )
+    after_one(given, result, scratch, counters, node, kind, x)
 }
 
 // A node of two operands: Read, the operators on words, Ult, Eq, And, Or.
 fn process_two(
     given: &[u64],
-    inputs: &[u64],
-    replies: &[u64],
-    dumps: &[u8],
     result: &mut [u64],
     scratch: &mut [u64],
-    minimise: bool,
+    dumps: &[u8; 4097],
+    call: &[usize; 5],
     counters: &mut [usize; 9],
     node: usize,
     kind: NodeKind,
 ) -> usize
-    requires { ⌜ Laid (now given) (now dumps) (now inputs) (now replies) minimise (now result) (now scratch) (walkIn (now counters)) ⌝ }
+    requires { ⌜ LaidBy (now given) (now dumps) (now call) (now result) (now scratch) (walkIn (now counters)) ⌝ }
     requires { ⌜ node < countOf (now given) ⌝ }
     requires { ⌜ markOf (countOf (now given)) (now scratch) node ≡ fresh ⌝ }
     requires { ⌜ wordOf (now given) node 2 < node ⌝ }
@@ -263,16 +171,14 @@ fn process_two(
     requires { ⌜ kindIs kind ≡ kindOf (wordOf (now given) node 0) ⌝ }
     requires { ⌜ Form.Two ≡ formOf (kindIs kind) (wordOf (now given) node 3) ⌝ }
     requires { ⌜ Going (now counters) ⌝ }
-    ensures { λ r. ⌜ Visits (now (given .entry)) (now (inputs .entry)) (now (replies .entry)) (now (result .entry)) (now (scratch .entry)) (walkIn (now (counters .entry))) (answerIn r (now (counters .exit))) (now (result .exit)) (now (scratch .exit)) node (λ f σ. twoOf (now (given .entry)) (waysIn (now (dumps .entry)) minimise (now (replies .entry))) f (kindIs kind) σ node) ⌝ }
+    ensures { λ r. ⌜ VisitsBy (now (given .entry)) (now (call .entry)) (now (result .entry)) (now (scratch .entry)) (walkIn (now (counters .entry))) (answerIn r (now (counters .exit))) (now (result .exit)) (now (scratch .exit)) node (λ f σ. twoOf (now (given .entry)) (waysBy (now (given .entry)) (now (dumps .entry)) (now (call .entry))) f (kindIs kind) σ node) ⌝ }
 {
     let x = visit(
         given,
-        inputs,
-        replies,
-        dumps,
         result,
         scratch,
-        minimise,
+        dumps,
+        call,
         counters,
         operand(given, node, 2),
     );
@@ -281,12 +187,10 @@ fn process_two(
     }
     let y = visit(
         given,
-        inputs,
-        replies,
-        dumps,
         result,
         scratch,
-        minimise,
+        dumps,
+        call,
         counters,
         operand(given, node, 3),
     );
@@ -294,52 +198,34 @@ fn process_two(
         return y;
     }
     put_row(given, result, node, x, y, operand(given, node, 4));
-    keep(
-        after_two(
-            given,
-            replies,
-            result,
-            scratch,
-            minimise,
-            walk_in(counters),
-            node,
-            kind,
-            x,
-            y,
-        ),
-        counters,
-    )
+    after_two(given, call, result, scratch, counters, node, kind, x, y)
 }
 
 // A Write.
 fn process_three(
     given: &[u64],
-    inputs: &[u64],
-    replies: &[u64],
-    dumps: &[u8],
     result: &mut [u64],
     scratch: &mut [u64],
-    minimise: bool,
+    dumps: &[u8; 4097],
+    call: &[usize; 5],
     counters: &mut [usize; 9],
     node: usize,
 ) -> usize
-    requires { ⌜ Laid (now given) (now dumps) (now inputs) (now replies) minimise (now result) (now scratch) (walkIn (now counters)) ⌝ }
+    requires { ⌜ LaidBy (now given) (now dumps) (now call) (now result) (now scratch) (walkIn (now counters)) ⌝ }
     requires { ⌜ node < countOf (now given) ⌝ }
     requires { ⌜ markOf (countOf (now given)) (now scratch) node ≡ fresh ⌝ }
     requires { ⌜ wordOf (now given) node 2 < node ⌝ }
     requires { ⌜ wordOf (now given) node 3 < node ⌝ }
     requires { ⌜ wordOf (now given) node 4 < node ⌝ }
     requires { ⌜ Going (now counters) ⌝ }
-    ensures { λ r. ⌜ Visits (now (given .entry)) (now (inputs .entry)) (now (replies .entry)) (now (result .entry)) (now (scratch .entry)) (walkIn (now (counters .entry))) (answerIn r (now (counters .exit))) (now (result .exit)) (now (scratch .exit)) node (λ f σ. threeOf (now (given .entry)) (waysIn (now (dumps .entry)) minimise (now (replies .entry))) f σ node) ⌝ }
+    ensures { λ r. ⌜ VisitsBy (now (given .entry)) (now (call .entry)) (now (result .entry)) (now (scratch .entry)) (walkIn (now (counters .entry))) (answerIn r (now (counters .exit))) (now (result .exit)) (now (scratch .exit)) node (λ f σ. threeOf (now (given .entry)) (waysBy (now (given .entry)) (now (dumps .entry)) (now (call .entry))) f σ node) ⌝ }
 {
     let x = visit(
         given,
-        inputs,
-        replies,
-        dumps,
         result,
         scratch,
-        minimise,
+        dumps,
+        call,
         counters,
         operand(given, node, 2),
     );
@@ -348,12 +234,10 @@ fn process_three(
     }
     let y = visit(
         given,
-        inputs,
-        replies,
-        dumps,
         result,
         scratch,
-        minimise,
+        dumps,
+        call,
         counters,
         operand(given, node, 3),
     );
@@ -362,12 +246,10 @@ fn process_three(
     }
     let z = visit(
         given,
-        inputs,
-        replies,
-        dumps,
         result,
         scratch,
-        minimise,
+        dumps,
+        call,
         counters,
         operand(given, node, 4),
     );
@@ -375,48 +257,34 @@ fn process_three(
         return z;
     }
     put_row(given, result, node, x, y, z);
-    keep(
-        settle(
-            given,
-            result,
-            scratch,
-            walk_in(counters),
-            node,
-            Folded::Stays,
-        ),
-        counters,
-    )
+    settle(given, result, scratch, counters, node, Folded::Stays)
 }
 
 // An Ite: its condition first, then only the chosen branch where that is constant.
 fn process_ite(
     given: &[u64],
-    inputs: &[u64],
-    replies: &[u64],
-    dumps: &[u8],
     result: &mut [u64],
     scratch: &mut [u64],
-    minimise: bool,
+    dumps: &[u8; 4097],
+    call: &[usize; 5],
     counters: &mut [usize; 9],
     node: usize,
 ) -> usize
-    requires { ⌜ Laid (now given) (now dumps) (now inputs) (now replies) minimise (now result) (now scratch) (walkIn (now counters)) ⌝ }
+    requires { ⌜ LaidBy (now given) (now dumps) (now call) (now result) (now scratch) (walkIn (now counters)) ⌝ }
     requires { ⌜ node < countOf (now given) ⌝ }
     requires { ⌜ markOf (countOf (now given)) (now scratch) node ≡ fresh ⌝ }
     requires { ⌜ wordOf (now given) node 2 < node ⌝ }
     requires { ⌜ wordOf (now given) node 3 < node ⌝ }
     requires { ⌜ wordOf (now given) node 4 < node ⌝ }
     requires { ⌜ Going (now counters) ⌝ }
-    ensures { λ r. ⌜ Visits (now (given .entry)) (now (inputs .entry)) (now (replies .entry)) (now (result .entry)) (now (scratch .entry)) (walkIn (now (counters .entry))) (answerIn r (now (counters .exit))) (now (result .exit)) (now (scratch .exit)) node (λ f σ. iteOf (now (given .entry)) (waysIn (now (dumps .entry)) minimise (now (replies .entry))) f σ node) ⌝ }
+    ensures { λ r. ⌜ VisitsBy (now (given .entry)) (now (call .entry)) (now (result .entry)) (now (scratch .entry)) (walkIn (now (counters .entry))) (answerIn r (now (counters .exit))) (now (result .exit)) (now (scratch .exit)) node (λ f σ. iteOf (now (given .entry)) (waysBy (now (given .entry)) (now (dumps .entry)) (now (call .entry))) f σ node) ⌝ }
 {
     let x = visit(
         given,
-        inputs,
-        replies,
-        dumps,
         result,
         scratch,
-        minimise,
+        dumps,
+        call,
         counters,
         operand(given, node, 2),
     );
@@ -425,73 +293,36 @@ fn process_ite(
     }
     let constant = get_constant(given, result, counters[0], x);
     match choice_of(constant) {
-        Choice::Left => process_left(
-            given,
-            inputs,
-            replies,
-            dumps,
-            result,
-            scratch,
-            minimise,
-            counters,
-            node,
-            x,
-        ),
-        Choice::Right => process_right(
-            given,
-            inputs,
-            replies,
-            dumps,
-            result,
-            scratch,
-            minimise,
-            counters,
-            node,
-            x,
-        ),
-        Choice::Undecided => process_both(
-            given,
-            inputs,
-            replies,
-            dumps,
-            result,
-            scratch,
-            minimise,
-            counters,
-            node,
-            x,
-        ),
+        Choice::Left => process_left(given, result, scratch, dumps, call, counters, node, x),
+        Choice::Right => process_right(given, result, scratch, dumps, call, counters, node, x),
+        Choice::Undecided => process_both(given, result, scratch, dumps, call, counters, node, x),
     }
 }
 
 // An Ite whose condition `x` is true: its left branch replaces it.
 fn process_left(
     given: &[u64],
-    inputs: &[u64],
-    replies: &[u64],
-    dumps: &[u8],
     result: &mut [u64],
     scratch: &mut [u64],
-    minimise: bool,
+    dumps: &[u8; 4097],
+    call: &[usize; 5],
     counters: &mut [usize; 9],
     node: usize,
     x: usize,
 ) -> usize
-    requires { ⌜ Laid (now given) (now dumps) (now inputs) (now replies) minimise (now result) (now scratch) (walkIn (now counters)) ⌝ }
+    requires { ⌜ LaidBy (now given) (now dumps) (now call) (now result) (now scratch) (walkIn (now counters)) ⌝ }
     requires { ⌜ node < countOf (now given) ⌝ }
     requires { ⌜ markOf (countOf (now given)) (now scratch) node ≡ fresh ⌝ }
     requires { ⌜ wordOf (now given) node 3 < node ⌝ }
     requires { ⌜ Going (now counters) ⌝ }
-    ensures { λ r. ⌜ Visits (now (given .entry)) (now (inputs .entry)) (now (replies .entry)) (now (result .entry)) (now (scratch .entry)) (walkIn (now (counters .entry))) (answerIn r (now (counters .exit))) (now (result .exit)) (now (scratch .exit)) node (λ f σ. leftOf (now (given .entry)) (waysIn (now (dumps .entry)) minimise (now (replies .entry))) f x σ node) ⌝ }
+    ensures { λ r. ⌜ VisitsBy (now (given .entry)) (now (call .entry)) (now (result .entry)) (now (scratch .entry)) (walkIn (now (counters .entry))) (answerIn r (now (counters .exit))) (now (result .exit)) (now (scratch .exit)) node (λ f σ. leftOf (now (given .entry)) (waysBy (now (given .entry)) (now (dumps .entry)) (now (call .entry))) f x σ node) ⌝ }
 {
     let y = visit(
         given,
-        inputs,
-        replies,
-        dumps,
         result,
         scratch,
-        minimise,
+        dumps,
+        call,
         counters,
         operand(given, node, 3),
     );
@@ -499,47 +330,33 @@ fn process_left(
         return y;
     }
     put_row(given, result, node, x, y, operand(given, node, 4));
-    keep(
-        settle(
-            given,
-            result,
-            scratch,
-            walk_in(counters),
-            node,
-            Folded::Swap(y),
-        ),
-        counters,
-    )
+    settle(given, result, scratch, counters, node, Folded::Swap(y))
 }
 
 // An Ite whose condition `x` is false: its right branch replaces it.
 fn process_right(
     given: &[u64],
-    inputs: &[u64],
-    replies: &[u64],
-    dumps: &[u8],
     result: &mut [u64],
     scratch: &mut [u64],
-    minimise: bool,
+    dumps: &[u8; 4097],
+    call: &[usize; 5],
     counters: &mut [usize; 9],
     node: usize,
     x: usize,
 ) -> usize
-    requires { ⌜ Laid (now given) (now dumps) (now inputs) (now replies) minimise (now result) (now scratch) (walkIn (now counters)) ⌝ }
+    requires { ⌜ LaidBy (now given) (now dumps) (now call) (now result) (now scratch) (walkIn (now counters)) ⌝ }
     requires { ⌜ node < countOf (now given) ⌝ }
     requires { ⌜ markOf (countOf (now given)) (now scratch) node ≡ fresh ⌝ }
     requires { ⌜ wordOf (now given) node 4 < node ⌝ }
     requires { ⌜ Going (now counters) ⌝ }
-    ensures { λ r. ⌜ Visits (now (given .entry)) (now (inputs .entry)) (now (replies .entry)) (now (result .entry)) (now (scratch .entry)) (walkIn (now (counters .entry))) (answerIn r (now (counters .exit))) (now (result .exit)) (now (scratch .exit)) node (λ f σ. rightOf (now (given .entry)) (waysIn (now (dumps .entry)) minimise (now (replies .entry))) f x σ node) ⌝ }
+    ensures { λ r. ⌜ VisitsBy (now (given .entry)) (now (call .entry)) (now (result .entry)) (now (scratch .entry)) (walkIn (now (counters .entry))) (answerIn r (now (counters .exit))) (now (result .exit)) (now (scratch .exit)) node (λ f σ. rightOf (now (given .entry)) (waysBy (now (given .entry)) (now (dumps .entry)) (now (call .entry))) f x σ node) ⌝ }
 {
     let z = visit(
         given,
-        inputs,
-        replies,
-        dumps,
         result,
         scratch,
-        minimise,
+        dumps,
+        call,
         counters,
         operand(given, node, 4),
     );
@@ -547,48 +364,34 @@ fn process_right(
         return z;
     }
     put_row(given, result, node, x, operand(given, node, 3), z);
-    keep(
-        settle(
-            given,
-            result,
-            scratch,
-            walk_in(counters),
-            node,
-            Folded::Swap(z),
-        ),
-        counters,
-    )
+    settle(given, result, scratch, counters, node, Folded::Swap(z))
 }
 
 // An Ite whose condition `x` is open.
 fn process_both(
     given: &[u64],
-    inputs: &[u64],
-    replies: &[u64],
-    dumps: &[u8],
     result: &mut [u64],
     scratch: &mut [u64],
-    minimise: bool,
+    dumps: &[u8; 4097],
+    call: &[usize; 5],
     counters: &mut [usize; 9],
     node: usize,
     x: usize,
 ) -> usize
-    requires { ⌜ Laid (now given) (now dumps) (now inputs) (now replies) minimise (now result) (now scratch) (walkIn (now counters)) ⌝ }
+    requires { ⌜ LaidBy (now given) (now dumps) (now call) (now result) (now scratch) (walkIn (now counters)) ⌝ }
     requires { ⌜ node < countOf (now given) ⌝ }
     requires { ⌜ markOf (countOf (now given)) (now scratch) node ≡ fresh ⌝ }
     requires { ⌜ wordOf (now given) node 3 < node ⌝ }
     requires { ⌜ wordOf (now given) node 4 < node ⌝ }
     requires { ⌜ Going (now counters) ⌝ }
-    ensures { λ r. ⌜ Visits (now (given .entry)) (now (inputs .entry)) (now (replies .entry)) (now (result .entry)) (now (scratch .entry)) (walkIn (now (counters .entry))) (answerIn r (now (counters .exit))) (now (result .exit)) (now (scratch .exit)) node (λ f σ. bothOf (now (given .entry)) (waysIn (now (dumps .entry)) minimise (now (replies .entry))) f x σ node) ⌝ }
+    ensures { λ r. ⌜ VisitsBy (now (given .entry)) (now (call .entry)) (now (result .entry)) (now (scratch .entry)) (walkIn (now (counters .entry))) (answerIn r (now (counters .exit))) (now (result .exit)) (now (scratch .exit)) node (λ f σ. bothOf (now (given .entry)) (waysBy (now (given .entry)) (now (dumps .entry)) (now (call .entry))) f x σ node) ⌝ }
 {
     let y = visit(
         given,
-        inputs,
-        replies,
-        dumps,
         result,
         scratch,
-        minimise,
+        dumps,
+        call,
         counters,
         operand(given, node, 3),
     );
@@ -597,12 +400,10 @@ fn process_both(
     }
     let z = visit(
         given,
-        inputs,
-        replies,
-        dumps,
         result,
         scratch,
-        minimise,
+        dumps,
+        call,
         counters,
         operand(given, node, 4),
     );
@@ -610,51 +411,33 @@ fn process_both(
         return z;
     }
     put_row(given, result, node, x, y, z);
-    keep(
-        after_ite(
-            given,
-            replies,
-            result,
-            scratch,
-            minimise,
-            walk_in(counters),
-            node,
-            x,
-            y,
-            z,
-        ),
-        counters,
-    )
+    after_ite(given, call, result, scratch, counters, node, x, y, z)
 }
 
 // A Next: its state first, which must not be replaced, then the next value.
 fn process_next(
     given: &[u64],
-    inputs: &[u64],
-    replies: &[u64],
-    dumps: &[u8],
     result: &mut [u64],
     scratch: &mut [u64],
-    minimise: bool,
+    dumps: &[u8; 4097],
+    call: &[usize; 5],
     counters: &mut [usize; 9],
     node: usize,
 ) -> usize
-    requires { ⌜ Laid (now given) (now dumps) (now inputs) (now replies) minimise (now result) (now scratch) (walkIn (now counters)) ⌝ }
+    requires { ⌜ LaidBy (now given) (now dumps) (now call) (now result) (now scratch) (walkIn (now counters)) ⌝ }
     requires { ⌜ node < countOf (now given) ⌝ }
     requires { ⌜ markOf (countOf (now given)) (now scratch) node ≡ fresh ⌝ }
     requires { ⌜ wordOf (now given) node 2 < node ⌝ }
     requires { ⌜ wordOf (now given) node 3 < node ⌝ }
     requires { ⌜ Going (now counters) ⌝ }
-    ensures { λ r. ⌜ Visits (now (given .entry)) (now (inputs .entry)) (now (replies .entry)) (now (result .entry)) (now (scratch .entry)) (walkIn (now (counters .entry))) (answerIn r (now (counters .exit))) (now (result .exit)) (now (scratch .exit)) node (λ f σ. stepOf (now (given .entry)) (waysIn (now (dumps .entry)) minimise (now (replies .entry))) f σ node) ⌝ }
+    ensures { λ r. ⌜ VisitsBy (now (given .entry)) (now (call .entry)) (now (result .entry)) (now (scratch .entry)) (walkIn (now (counters .entry))) (answerIn r (now (counters .exit))) (now (result .exit)) (now (scratch .exit)) node (λ f σ. stepOf (now (given .entry)) (waysBy (now (given .entry)) (now (dumps .entry)) (now (call .entry))) f σ node) ⌝ }
 {
     let x = visit(
         given,
-        inputs,
-        replies,
-        dumps,
         result,
         scratch,
-        minimise,
+        dumps,
+        call,
         counters,
         operand(given, node, 2),
     );
@@ -665,46 +448,32 @@ fn process_next(
         refuse(Refusal::ReplacedState(node), counters);
         return node;
     }
-    process_value(
-        given,
-        inputs,
-        replies,
-        dumps,
-        result,
-        scratch,
-        minimise,
-        counters,
-        node,
-    )
+    process_value(given, result, scratch, dumps, call, counters, node)
 }
 
 // The next value of a Next, whose first word is never rewritten.
 fn process_value(
     given: &[u64],
-    inputs: &[u64],
-    replies: &[u64],
-    dumps: &[u8],
     result: &mut [u64],
     scratch: &mut [u64],
-    minimise: bool,
+    dumps: &[u8; 4097],
+    call: &[usize; 5],
     counters: &mut [usize; 9],
     node: usize,
 ) -> usize
-    requires { ⌜ Laid (now given) (now dumps) (now inputs) (now replies) minimise (now result) (now scratch) (walkIn (now counters)) ⌝ }
+    requires { ⌜ LaidBy (now given) (now dumps) (now call) (now result) (now scratch) (walkIn (now counters)) ⌝ }
     requires { ⌜ node < countOf (now given) ⌝ }
     requires { ⌜ markOf (countOf (now given)) (now scratch) node ≡ fresh ⌝ }
     requires { ⌜ wordOf (now given) node 3 < node ⌝ }
     requires { ⌜ Going (now counters) ⌝ }
-    ensures { λ r. ⌜ Visits (now (given .entry)) (now (inputs .entry)) (now (replies .entry)) (now (result .entry)) (now (scratch .entry)) (walkIn (now (counters .entry))) (answerIn r (now (counters .exit))) (now (result .exit)) (now (scratch .exit)) node (λ f σ. valueOf (now (given .entry)) (waysIn (now (dumps .entry)) minimise (now (replies .entry))) f σ node) ⌝ }
+    ensures { λ r. ⌜ VisitsBy (now (given .entry)) (now (call .entry)) (now (result .entry)) (now (scratch .entry)) (walkIn (now (counters .entry))) (answerIn r (now (counters .exit))) (now (result .exit)) (now (scratch .exit)) node (λ f σ. valueOf (now (given .entry)) (waysBy (now (given .entry)) (now (dumps .entry)) (now (call .entry))) f σ node) ⌝ }
 {
     let y = visit(
         given,
-        inputs,
-        replies,
-        dumps,
         result,
         scratch,
-        minimise,
+        dumps,
+        call,
         counters,
         operand(given, node, 3),
     );
@@ -719,62 +488,30 @@ fn process_value(
         y,
         operand(given, node, 4),
     );
-    keep(
-        settle(
-            given,
-            result,
-            scratch,
-            walk_in(counters),
-            node,
-            Folded::Stays,
-        ),
-        counters,
-    )
+    settle(given, result, scratch, counters, node, Folded::Stays)
 }
 
 // Visits an entry of a list. A fresh one is processed here, not by way of `visit`: a second caller of `process` keeps the two apart when they
 // are compiled, and the visit of an operand that was visited before is then short.
 pub(crate) fn visit_entry(
     given: &[u64],
-    inputs: &[u64],
-    replies: &[u64],
-    dumps: &[u8],
     result: &mut [u64],
     scratch: &mut [u64],
-    minimise: bool,
+    dumps: &[u8; 4097],
+    call: &[usize; 5],
     walk: Walk,
     node: usize,
 ) -> Visited
-    requires { ⌜ Laid (now given) (now dumps) (now inputs) (now replies) minimise (now result) (now scratch) walk ⌝ }
+    requires { ⌜ LaidBy (now given) (now dumps) (now call) (now result) (now scratch) walk ⌝ }
     requires { ⌜ node < countOf (now given) ⌝ }
-    ensures { λ r. ⌜ Visits (now (given .entry)) (now (inputs .entry)) (now (replies .entry)) (now (result .entry)) (now (scratch .entry)) walk r (now (result .exit)) (now (scratch .exit)) (node + 1) (λ f σ. visitOf (now (given .entry)) (waysIn (now (dumps .entry)) minimise (now (replies .entry))) f σ node) ⌝ }
+    ensures { λ r. ⌜ VisitsBy (now (given .entry)) (now (call .entry)) (now (result .entry)) (now (scratch .entry)) walk r (now (result .exit)) (now (scratch .exit)) (node + 1) (λ f σ. visitOf (now (given .entry)) (waysBy (now (given .entry)) (now (dumps .entry)) (now (call .entry))) f σ node) ⌝ }
 {
     let mut counters = [0usize; 9];
     put_walk(walk, &mut counters);
     if scratch[node] == 0 {
-        let first = process(
-            given,
-            inputs,
-            replies,
-            dumps,
-            result,
-            scratch,
-            minimise,
-            &mut counters,
-            node,
-        );
+        let first = process(given, result, scratch, dumps, call, &mut counters, node);
         return visited_in(first, &counters);
     }
-    let again = visit(
-        given,
-        inputs,
-        replies,
-        dumps,
-        result,
-        scratch,
-        minimise,
-        &mut counters,
-        node,
-    );
+    let again = visit(given, result, scratch, dumps, call, &mut counters, node);
     visited_in(again, &counters)
 }

@@ -4,6 +4,8 @@ use borrow.Author.Needs.{needs}
 use native.Mathlib.Omega.{arith}
 use lib.ListN.{length-set}
 use Rattle.optimize.proofs.Stores.{pushed}
+use Rattle.optimize.specs.Counters.{walkIn, oneMade}
+use Rattle.optimize.proofs.CounterLaws.{view-put}
 use Rattle.optimize.proofs.buffers.push.Statement.{statement}
 use Rattle.optimize.proofs.buffers.push.Tie as tie
 
@@ -15,6 +17,9 @@ mul-at c = search needs
 
 add-at : tie.Need-add-at
 add-at c = search needs
+
+element-copy-out-at : tie.Need-element-copy-out-at
+element-copy-out-at c = search needs
 
 add-at-2 : tie.Need-add-at-2
 add-at-2 c = search needs
@@ -40,30 +45,17 @@ mul-result-2 c = search needs
 slice-write-result-2 : tie.Need-slice-write-result-2
 slice-write-result-2 c = simp length-set (omega arith)
 
-add-t11 : tie.Need-add-t11
-add-t11 c = search needs
+made-one-requires : tie.Need-made-one-requires
+made-one-requires c κs = search needs
 
 same-length : tie.Need-same-length
 same-length c = search needs
 
 returns : tie.Need-returns
-returns c = λ h inputs replies S. pushed h _ inputs replies _ S _ _ _ _ (c .node-count .ensures) (omega arith)
+returns c =
+    let at-node-count = c .before .before .before in
+    let start = at-node-count .before .before .before in
+    ((λ h inputs replies S. view-put h (start .args .given .now) inputs replies _ S (oneMade (walkIn (start .args .counters .now))) (start .args .counters .now) _ (c .made-one .ensures) _ (pushed h (start .args .given .now) inputs replies _ S (walkIn (start .args .counters .now)) _ _ _ (at-node-count .node-count .ensures) (omega arith))), c .made-one .ensures)
 
 pub push-spec : {M : Type 1} → statement M
-push-spec =
-    tie.close
-    (tie.spec
-    node-count-requires
-    mul-at
-    add-at
-    add-at-2
-    mul-at-2
-    add-at-3
-    mul-result
-    slice-write-result
-    add-result
-    mul-result-2
-    slice-write-result-2
-    add-t11
-    same-length
-    returns)
+push-spec = tie.close (tie.spec node-count-requires mul-at add-at element-copy-out-at add-at-2 mul-at-2 add-at-3 mul-result slice-write-result add-result mul-result-2 slice-write-result-2 made-one-requires same-length returns)

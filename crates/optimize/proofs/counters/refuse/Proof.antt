@@ -2,7 +2,8 @@
 -- Assumes nothing.
 use borrow.Author.Needs.{needs}
 use mathlib.Core.Path.{_∙_}
-use Rattle.optimize.proofs.CounterLaws.{put-refusal}
+use Rattle.optimize.proofs.CounterLaws.{refusal-words}
+use Rattle.tables.specs.Refusals.{refusalOf}
 use Rattle.optimize.proofs.counters.refuse.Statement.{statement}
 use Rattle.optimize.proofs.counters.refuse.Tie as tie
 
@@ -41,13 +42,12 @@ position-requires c κs = search needs
 
 returns : tie.Need-returns
 returns c =
-    let at-position = c .before in
-    let at-number3 = at-position .before in
+    let at-number3 = c .before .before in
     let at-section = at-number3 .before in
     let at-number2 = at-section .before in
     let at-number = at-number2 .before in
     let start = at-number .before .before .before .before .before .before .before in
-    put-refusal (start .args .refusal) _ _ _ (at-number2 .number2 .ensures ∙ at-number .number .ensures) (at-number3 .number3 .ensures ∙ at-section .section .ensures) (at-position .position .ensures)
+    refusal-words (start .args .counters .now) (refusalOf (start .args .refusal)) _ _ _ (at-number2 .number2 .ensures ∙ at-number .number .ensures) (at-number3 .number3 .ensures ∙ at-section .section .ensures) (c .before .position .ensures)
 
 pub refuse-spec : {M : Type 1} → statement M
 refuse-spec = tie.close (tie.spec element-copy-out-t5 element-copy-out-t8 element-copy-out-t11 element-copy-out-t14 element-copy-out-t17 element-copy-out-t20 number-requires number-requires-2 section-requires number-requires-3 position-requires returns)

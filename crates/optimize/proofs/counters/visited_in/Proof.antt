@@ -10,33 +10,22 @@ use Rattle.optimize.proofs.counters.visited_in.Tie as tie
 is-refused-requires : tie.Need-is-refused-requires
 is-refused-requires c κs = search needs
 
-element-copy-out-refusal-by : tie.Need-element-copy-out-refusal-by
-element-copy-out-refusal-by c = search needs
-
-element-copy-out-refusal-by-2 : tie.Need-element-copy-out-refusal-by-2
-element-copy-out-refusal-by-2 c = search needs
-
-element-copy-out-refusal-by-3 : tie.Need-element-copy-out-refusal-by-3
-element-copy-out-refusal-by-3 c = search needs
-
-refusal-by-requires : tie.Need-refusal-by-requires
-refusal-by-requires c κs = search needs
+refusal-in-requires : tie.Need-refusal-in-requires
+refusal-in-requires c κs = search needs
 
 returns : tie.Need-returns
 returns c =
-    let at-if1 = c .before .before .before .before in
-    let at-is-refused = at-if1 .before in
-    ap Visited.Refused (c .refusal-by .ensures) ∙ sym (stopped _ _ _ (at-is-refused .is-refused .ensures) (at-if1 .if1 .taken))
+    let at-is-refused = c .before .before in
+    ap Visited.Refused (c .refusal-in .ensures) ∙ sym (stopped _ _ _ (at-is-refused .is-refused .ensures) (c .before .if1 .taken))
 
 walk-in-requires : tie.Need-walk-in-requires
 walk-in-requires c κs = search needs
 
 returns-2 : tie.Need-returns-2
 returns-2 c =
-    let at-if1 = c .before in
-    let at-is-refused = at-if1 .before in
+    let at-is-refused = c .before .before in
     let start = at-is-refused .before in
-    ap (λ w. Visited.Done w (start .args .node)) (c .walk-in .ensures) ∙ sym (went _ _ _ (at-is-refused .is-refused .ensures) (at-if1 .if1 .left))
+    ap (λ w. Visited.Done w (start .args .node)) (c .walk-in .ensures) ∙ sym (went _ _ _ (at-is-refused .is-refused .ensures) (c .before .if1 .left))
 
 pub visited-in-spec : {M : Type 1} → statement M
-visited-in-spec = tie.close (tie.spec is-refused-requires element-copy-out-refusal-by element-copy-out-refusal-by-2 element-copy-out-refusal-by-3 refusal-by-requires returns walk-in-requires returns-2)
+visited-in-spec = tie.close (tie.spec is-refused-requires refusal-in-requires returns walk-in-requires returns-2)

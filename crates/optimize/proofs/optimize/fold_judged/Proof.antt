@@ -18,11 +18,6 @@ inputs-end-requires c κs = search needs
 replies-end-requires : tie.Need-replies-end-requires
 replies-end-requires c κs = search needs
 
-slice-aggregate-fold-parts : tie.Need-slice-aggregate-fold-parts
-slice-aggregate-fold-parts c =
-    let at-mark-memory-dumps = c .before .before .before in
-    sym (at-mark-memory-dumps .mark-memory-dumps .ensures .1)
-
 fold-parts-requires : tie.Need-fold-parts-requires
 fold-parts-requires c κs =
     let at-replies-end = c .before .before .before in
@@ -58,15 +53,4 @@ returns c =
     (ap answered (at-finish-call .finish-call .ensures .0) ∙ left .0, (at-finish-call .finish-call .ensures .1 .0 ∙ left .1, at-finish-call .finish-call .ensures .1 .1 ∙ scratch-left e call _ (at-fold-parts .fold-parts .kept .1 .1 .1 .1 .1 .1 .1 .0)))
 
 pub fold-judged-spec : {M : Type 1} → statement M
-fold-judged-spec =
-    tie.close
-    (tie.spec
-    mark-memory-dumps-requires
-    inputs-end-requires
-    replies-end-requires
-    slice-aggregate-fold-parts
-    fold-parts-requires
-    finish-call-requires
-    same-length
-    same-length-2
-    returns)
+fold-judged-spec = tie.close (tie.spec mark-memory-dumps-requires inputs-end-requires replies-end-requires fold-parts-requires finish-call-requires same-length same-length-2 returns)

@@ -12,19 +12,19 @@ use Rattle.optimize.proofs.run.fold_bads.Tie as tie
 
 add-second : tie.Need-add-second
 add-second c =
-    let start = c .before .before .before .before .before .before .before .before .before in
+    let start = c .before .before .before .before .before .before in
     let u = start .pre in
     omega (arith, lists-fit _ _ _ _ _ _ _ _ _ _ _ _ _ u)
 
 add-third : tie.Need-add-third
 add-third c =
-    let start = c .before .before .before .before .before .before .before .before .before in
+    let start = c .before .before .before .before .before .before in
     let u = start .pre in
     omega (arith, lists-fit _ _ _ _ _ _ _ _ _ _ _ _ _ u)
 
 judge-bads-requires : tie.Need-judge-bads-requires
 judge-bads-requires c κs =
-    let start = c .before .before .before .before .before .before .before .before .before .before .before in
+    let start = c .before .before .before .before .before .before .before .before in
     let u = start .pre in
     (u .laid, ((u .runnable .legal .initial, omega (arith, u .spare)), (omega arith, omega (arith, lists-fit _ _ _ _ _ _ _ _ _ _ _ _ _ u))))
 
@@ -38,10 +38,10 @@ judge-bads-requires-2 : tie.Need-judge-bads-requires-2
 judge-bads-requires-2 c κs =
     let at-first2 = c .before .before .before in
     let at-judge-bads = at-first2 .before .before .before .before .before .before in
-    let start = at-judge-bads .before .before .before .before .before .before .before .before .before .before .before .before in
+    let start = at-judge-bads .before .before .before .before .before .before .before .before .before in
     let u = start .pre in
     let left = at-judge-bads .judge-bads .ensures .1 in
-    let S-same = at-judge-bads .judge-bads .kept .1 .1 .1 .1 .1 .1 .0 in
+    let S-same = at-judge-bads .judge-bads .kept .1 .1 .1 .0 in
     let spare-1 = left .spare _ _ (length (start .args .later .now) + 1) (at-first2 .first2 .given .1) (u .spare) in
     (left .laid _ _ (at-first2 .first2 .given .1), ((u .runnable .legal .later, omega (arith, spare-1)), (omega arith, omega (arith, lists-fit _ _ _ _ _ _ _ _ _ _ _ _ _ u, S-same))))
 
@@ -51,18 +51,18 @@ enum-known-last c = search needs
 enum-known-last-2 : tie.Need-enum-known-last-2
 enum-known-last-2 c = search needs
 
-write-run-requires : tie.Need-write-run-requires
-write-run-requires c κs =
+write-call-requires : tie.Need-write-call-requires
+write-call-requires c κs =
     let at-last2 = c .before .before .before in
     let at-judge-bads2 = at-last2 .before .before .before .before .before .before in
     let at-first2 = at-judge-bads2 .before .before .before .before in
     let at-judge-bads = at-first2 .before .before .before .before .before .before in
-    let start = at-judge-bads .before .before .before .before .before .before .before .before .before .before .before .before in
+    let start = at-judge-bads .before .before .before .before .before .before .before .before .before in
     let u = start .pre in
     let left = at-judge-bads .judge-bads .ensures .1 in
     let then-left = at-judge-bads2 .judge-bads2 .ensures .1 in
-    let T-same = at-judge-bads2 .judge-bads2 .kept .1 .1 .1 .1 .1 .1 .0 ∙ at-judge-bads .judge-bads .kept .1 .1 .1 .1 .1 .1 .0 in
-    let Q-same = at-judge-bads2 .judge-bads2 .kept .1 .1 .1 .1 .1 .0 ∙ at-judge-bads .judge-bads .kept .1 .1 .1 .1 .1 .0 in
+    let T-same = at-judge-bads2 .judge-bads2 .kept .1 .1 .1 .0 ∙ at-judge-bads .judge-bads .kept .1 .1 .1 .0 in
+    let Q-same = at-judge-bads2 .judge-bads2 .kept .1 .1 .0 ∙ at-judge-bads .judge-bads .kept .1 .1 .0 in
     let spare-1 = left .spare _ _ (length (start .args .later .now) + 1) (at-first2 .first2 .given .1) (u .spare) in
     let spare-2 = then-left .spare _ _ 1 (at-last2 .last2 .given .1) spare-1 in
     ended _ _ _ _ _ _ _ _ _ _ _ _ _ u _ _ _ _ Q-same T-same (then-left .laid _ _ (at-last2 .last2 .given .1)) spare-2 (u .fewer) (left .few _ _ (at-first2 .first2 .given .1)) (then-left .few _ _ (at-last2 .last2 .given .1))
@@ -76,7 +76,7 @@ same-length-2 c = search needs
 returns : tie.Need-returns
 returns c =
     let at-judge-bads = c .before .before .before .before .before .before .before in
-    let start = at-judge-bads .before .before .before .before .before .before .before .before .before .before .before .before in
+    let start = at-judge-bads .before .before .before .before .before .before .before .before .before in
     let u = start .pre in
     let with-first = at-judge-bads .judge-bads .ensures .0 in
     λ h. let p = with-first h in first-ends _ _ _ _ _ _ _ _ _ _ _ _ _ u (start .args .terminate) _ _ _ _ (judged-refused _ _ _ _ _ _ _ _ _ _ _ (p .2) _ (c .before .first .given .1))
@@ -92,7 +92,7 @@ returns-2 c =
     let at-judge-bads2 = c .before .before .before .before .before .before .before in
     let at-first2 = at-judge-bads2 .before .before .before .before in
     let at-judge-bads = at-first2 .before .before .before .before .before .before in
-    let start = at-judge-bads .before .before .before .before .before .before .before .before .before .before .before .before in
+    let start = at-judge-bads .before .before .before .before .before .before .before .before .before in
     let u = start .pre in
     let with-first = at-judge-bads .judge-bads .ensures .0 in
     let with-last = at-judge-bads2 .judge-bads2 .ensures .0 in
@@ -100,52 +100,34 @@ returns-2 c =
 
 same-length-5 : tie.Need-same-length-5
 same-length-5 c =
-    let at-judge-bads2 = c .before .before .before .before .before .before .before .before .before .before .before .before in
+    let at-write-call = c .before .before in
+    let at-judge-bads2 = at-write-call .before .before .before .before .before .before .before .before .before .before in
     let at-judge-bads = at-judge-bads2 .before .before .before .before .before .before .before .before .before .before in
-    let Q-same = at-judge-bads2 .judge-bads2 .kept .1 .1 .1 .1 .1 .0 ∙ at-judge-bads .judge-bads .kept .1 .1 .1 .1 .1 .0 in
-    c .before .before .write-run .kept .1 .1 .1 .0 ∙ Q-same
+    let Q-same = at-judge-bads2 .judge-bads2 .kept .1 .1 .0 ∙ at-judge-bads .judge-bads .kept .1 .1 .0 in
+    at-write-call .write-call .kept .1 .1 .0 ∙ Q-same
 
 same-length-6 : tie.Need-same-length-6
 same-length-6 c = search needs
 
 returns-3 : tie.Need-returns-3
 returns-3 c =
-    let at-last2 = c .before .before .before .before .before .before in
+    let at-write-call = c .before .before in
+    let at-last2 = at-write-call .before .before .before .before in
     let at-judge-bads2 = at-last2 .before .before .before .before .before .before in
     let at-first2 = at-judge-bads2 .before .before .before .before in
     let at-judge-bads = at-first2 .before .before .before .before .before .before in
-    let start = at-judge-bads .before .before .before .before .before .before .before .before .before .before .before .before in
+    let start = at-judge-bads .before .before .before .before .before .before .before .before .before in
     let u = start .pre in
     let left = at-judge-bads .judge-bads .ensures .1 in
     let then-left = at-judge-bads2 .judge-bads2 .ensures .1 in
     let with-first = at-judge-bads .judge-bads .ensures .0 in
     let with-last = at-judge-bads2 .judge-bads2 .ensures .0 in
-    let S-same = at-judge-bads .judge-bads .kept .1 .1 .1 .1 .1 .1 .0 in
-    let T-same = at-judge-bads2 .judge-bads2 .kept .1 .1 .1 .1 .1 .1 .0 ∙ at-judge-bads .judge-bads .kept .1 .1 .1 .1 .1 .1 .0 in
-    let Q-same = at-judge-bads2 .judge-bads2 .kept .1 .1 .1 .1 .1 .0 ∙ at-judge-bads .judge-bads .kept .1 .1 .1 .1 .1 .0 in
+    let S-same = at-judge-bads .judge-bads .kept .1 .1 .1 .0 in
+    let T-same = at-judge-bads2 .judge-bads2 .kept .1 .1 .1 .0 ∙ at-judge-bads .judge-bads .kept .1 .1 .1 .0 in
+    let Q-same = at-judge-bads2 .judge-bads2 .kept .1 .1 .0 ∙ at-judge-bads .judge-bads .kept .1 .1 .0 in
     let spare-1 = left .spare _ _ (length (start .args .later .now) + 1) (at-first2 .first2 .given .1) (u .spare) in
     let spare-2 = then-left .spare _ _ 1 (at-last2 .last2 .given .1) spare-1 in
-    λ h. let p = with-first h in let q = with-last (p .0) in both-ended _ _ _ _ _ _ _ _ _ _ _ _ _ u (start .args .terminate) _ _ _ _ (p .0) (q .0) (p .1) (q .1) _ _ _ _ _ _ _ _ (judged-done _ _ _ _ _ _ _ _ _ _ _ (p .2) _ _ (at-first2 .first2 .given .1)) (judged-done _ _ _ _ _ _ _ _ _ _ _ (q .2) _ _ (at-last2 .last2 .given .1)) (left .still) (then-left .still) S-same T-same (left .few _ _ (at-first2 .first2 .given .1)) spare-2 (c .before .before .write-run .ensures (q .0) _ _ (model-of _ _ _ _ _ _ _ _ _ _ _ _ _ u)) Q-same
+    λ h. let p = with-first h in let q = with-last (p .0) in both-ended _ _ _ _ _ _ _ _ _ _ _ _ _ u (start .args .terminate) _ _ _ _ (p .0) (q .0) (p .1) (q .1) _ _ _ _ _ _ _ _ (judged-done _ _ _ _ _ _ _ _ _ _ _ (p .2) _ _ (at-first2 .first2 .given .1)) (judged-done _ _ _ _ _ _ _ _ _ _ _ (q .2) _ _ (at-last2 .last2 .given .1)) (left .still) (then-left .still) S-same T-same (left .few _ _ (at-first2 .first2 .given .1)) spare-2 (at-write-call .write-call .ensures (q .0) _ _ (model-of _ _ _ _ _ _ _ _ _ _ _ _ _ u)) Q-same
 
 pub fold-bads-spec : {M : Type 1} → statement M
-fold-bads-spec =
-    tie.close
-    (tie.spec
-    add-second
-    add-third
-    judge-bads-requires
-    enum-known-first
-    enum-known-first-2
-    judge-bads-requires-2
-    enum-known-last
-    enum-known-last-2
-    write-run-requires
-    same-length
-    same-length-2
-    returns
-    same-length-3
-    same-length-4
-    returns-2
-    same-length-5
-    same-length-6
-    returns-3)
+fold-bads-spec = tie.close (tie.spec add-second add-third judge-bads-requires enum-known-first enum-known-first-2 judge-bads-requires-2 enum-known-last enum-known-last-2 write-call-requires same-length same-length-2 returns same-length-3 same-length-4 returns-2 same-length-5 same-length-6 returns-3)

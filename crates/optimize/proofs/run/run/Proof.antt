@@ -6,6 +6,7 @@ use mathlib.Core.Bool.{true, false}
 use native.Mathlib.Omega.{arith}
 use lib.ListN.{length}
 use Rattle.optimize.proofs.RunJoined.{run-ready, run-table, run-place, run-laid, run-entries, run-held, run-underway, run-refused, run-ends}
+use Rattle.optimize.specs.CallWords.{inputsIn, repliesIn, minimiseIn}
 use Rattle.optimize.proofs.run.run.Statement.{statement}
 use Rattle.optimize.proofs.run.run.Tie as tie
 
@@ -14,24 +15,25 @@ add-lists-at c = search needs
 
 lists-at-requires : tie.Need-lists-at-requires
 lists-at-requires c κs =
-    let start = c .before .before .before .before .before .before .before .before .before in
+    let start = c .before .before .before .before .before .before in
     let u = start .pre in
     (omega (arith, u .whole), u .small, u .bads)
 
 begin-requires : tie.Need-begin-requires
 begin-requires c κs =
-    let start = c .before .before .before .before .before .before .before .before .before .before .before .before in
+    let at-lists-at = c .before .before in
+    let start = at-lists-at .before .before .before .before .before .before .before in
     let g = start .args .given .now in
     let dumps = start .args .dumps .now in
     let ss = start .args .sequentials .now in
     let initial = start .args .initial .now in
     let later = start .args .later .now in
-    let ins = start .args .inputs .now in
-    let reps = start .args .replies .now in
+    let ins = (inputsIn (start .args .given .now) (start .args .call .now)) in
+    let reps = (repliesIn (start .args .given .now) (start .args .call .now)) in
     let r = length (start .args .result .now) in
     let s = length (start .args .scratch .now) in
     let u = start .pre in
-    let place = c .before .before .lists-at .ensures in
+    let place = at-lists-at .lists-at .ensures in
     (run-ready g dumps ss initial later ins reps r s u, ((run-table g dumps ss initial later ins reps r s u, u .legal .sequentials), (omega (arith, place), run-place g dumps ss initial later ins reps r s u _ place)))
 
 untouched-requires : tie.Need-untouched-requires
@@ -41,17 +43,17 @@ visit-all-requires : tie.Need-visit-all-requires
 visit-all-requires c κs =
     let at-begin = c .before .before .before .before .before .before .before in
     let at-lists-at = at-begin .before .before .before in
-    let start = at-lists-at .before .before .before .before .before .before .before .before .before .before in
+    let start = at-lists-at .before .before .before .before .before .before .before in
     let g = start .args .given .now in
     let dumps = start .args .dumps .now in
     let ss = start .args .sequentials .now in
     let initial = start .args .initial .now in
     let later = start .args .later .now in
-    let ins = start .args .inputs .now in
-    let reps = start .args .replies .now in
+    let ins = (inputsIn (start .args .given .now) (start .args .call .now)) in
+    let reps = (repliesIn (start .args .given .now) (start .args .call .now)) in
     let r = length (start .args .result .now) in
     let s = length (start .args .scratch .now) in
-    let minimise = start .args .minimise in
+    let minimise = (minimiseIn (start .args .call .now)) in
     let u = start .pre in
     let place = at-lists-at .lists-at .ensures in
     let R-same = at-begin .begin .kept .1 .1 .0 in
@@ -74,25 +76,25 @@ fold-once-requires c κs =
     let at-untouched = at-visit-all .before in
     let at-begin = at-untouched .before .before .before .before .before .before .before in
     let at-lists-at = at-begin .before .before .before in
-    let start = at-lists-at .before .before .before .before .before .before .before .before .before .before in
+    let start = at-lists-at .before .before .before .before .before .before .before in
     let g = start .args .given .now in
     let dumps = start .args .dumps .now in
     let ss = start .args .sequentials .now in
     let initial = start .args .initial .now in
     let later = start .args .later .now in
-    let ins = start .args .inputs .now in
-    let reps = start .args .replies .now in
+    let ins = (inputsIn (start .args .given .now) (start .args .call .now)) in
+    let reps = (repliesIn (start .args .given .now) (start .args .call .now)) in
     let r = length (start .args .result .now) in
     let s = length (start .args .scratch .now) in
-    let minimise = start .args .minimise in
+    let minimise = (minimiseIn (start .args .call .now)) in
     let u = start .pre in
     let place = at-lists-at .lists-at .ensures in
     let R-same = at-begin .begin .kept .1 .1 .0 in
     let S-same = at-begin .begin .kept .1 .1 .1 .0 in
     let fewer = at-begin .begin .ensures .1 in
     let judged = at-begin .begin .ensures .0 in
-    let Q-same = at-visit-all .visit-all .kept .1 .1 .1 .1 .0 in
-    let T-same = at-visit-all .visit-all .kept .1 .1 .1 .1 .1 .0 in
+    let Q-same = at-visit-all .visit-all .kept .1 .0 in
+    let T-same = at-visit-all .visit-all .kept .1 .1 .0 in
     let goes = at-visit-all .visit-all .ensures .0 in
     let laid = at-visit-all .visit-all .ensures .1 .0 in
     let fresh-walk = at-untouched .untouched .ensures in
@@ -104,8 +106,8 @@ same-length c =
     let at-visit-all = at-fold-once .before .before .before .before .before .before .before .before .before .before .before in
     let at-begin = at-visit-all .before .before .before .before .before .before .before .before in
     let R-same = at-begin .begin .kept .1 .1 .0 in
-    let Q-same = at-visit-all .visit-all .kept .1 .1 .1 .1 .0 in
-    at-fold-once .fold-once .kept .1 .1 .1 .1 .1 .1 .1 .1 .1 .0 ∙ Q-same ∙ R-same
+    let Q-same = at-visit-all .visit-all .kept .1 .0 in
+    at-fold-once .fold-once .kept .1 .1 .1 .1 .1 .0 ∙ Q-same ∙ R-same
 
 same-length-2 : tie.Need-same-length-2
 same-length-2 c = search needs
@@ -119,24 +121,24 @@ returns c =
     let at-untouched = at-visit-all .before in
     let at-begin = at-untouched .before .before .before .before .before .before .before in
     let at-lists-at = at-begin .before .before .before in
-    let start = at-lists-at .before .before .before .before .before .before .before .before .before .before in
+    let start = at-lists-at .before .before .before .before .before .before .before in
     let g = start .args .given .now in
     let dumps = start .args .dumps .now in
     let ss = start .args .sequentials .now in
     let initial = start .args .initial .now in
     let later = start .args .later .now in
-    let ins = start .args .inputs .now in
-    let reps = start .args .replies .now in
+    let ins = (inputsIn (start .args .given .now) (start .args .call .now)) in
+    let reps = (repliesIn (start .args .given .now) (start .args .call .now)) in
     let r = length (start .args .result .now) in
     let s = length (start .args .scratch .now) in
-    let minimise = start .args .minimise in
+    let minimise = (minimiseIn (start .args .call .now)) in
     let u = start .pre in
     let place = at-lists-at .lists-at .ensures in
     let R-same = at-begin .begin .kept .1 .1 .0 in
     let S-same = at-begin .begin .kept .1 .1 .1 .0 in
     let fewer = at-begin .begin .ensures .1 in
     let judged = at-begin .begin .ensures .0 in
-    let Q-same = at-visit-all .visit-all .kept .1 .1 .1 .1 .0 in
+    let Q-same = at-visit-all .visit-all .kept .1 .0 in
     let goes = at-visit-all .visit-all .ensures .0 in
     let still = at-visit-all .visit-all .ensures .1 .1 in
     let terminate = start .args .terminate in
@@ -151,25 +153,25 @@ fold-bads-requires c κs =
     let at-untouched = at-visit-all .before in
     let at-begin = at-untouched .before .before .before .before .before .before .before in
     let at-lists-at = at-begin .before .before .before in
-    let start = at-lists-at .before .before .before .before .before .before .before .before .before .before in
+    let start = at-lists-at .before .before .before .before .before .before .before in
     let g = start .args .given .now in
     let dumps = start .args .dumps .now in
     let ss = start .args .sequentials .now in
     let initial = start .args .initial .now in
     let later = start .args .later .now in
-    let ins = start .args .inputs .now in
-    let reps = start .args .replies .now in
+    let ins = (inputsIn (start .args .given .now) (start .args .call .now)) in
+    let reps = (repliesIn (start .args .given .now) (start .args .call .now)) in
     let r = length (start .args .result .now) in
     let s = length (start .args .scratch .now) in
-    let minimise = start .args .minimise in
+    let minimise = (minimiseIn (start .args .call .now)) in
     let u = start .pre in
     let place = at-lists-at .lists-at .ensures in
     let R-same = at-begin .begin .kept .1 .1 .0 in
     let S-same = at-begin .begin .kept .1 .1 .1 .0 in
     let fewer = at-begin .begin .ensures .1 in
     let judged = at-begin .begin .ensures .0 in
-    let Q-same = at-visit-all .visit-all .kept .1 .1 .1 .1 .0 in
-    let T-same = at-visit-all .visit-all .kept .1 .1 .1 .1 .1 .0 in
+    let Q-same = at-visit-all .visit-all .kept .1 .0 in
+    let T-same = at-visit-all .visit-all .kept .1 .1 .0 in
     let goes = at-visit-all .visit-all .ensures .0 in
     let laid = at-visit-all .visit-all .ensures .1 .0 in
     let fresh-walk = at-untouched .untouched .ensures in
@@ -187,17 +189,17 @@ returns-2 c =
     let at-untouched = at-visit-all .before in
     let at-begin = at-untouched .before .before .before .before .before .before .before in
     let at-lists-at = at-begin .before .before .before in
-    let start = at-lists-at .before .before .before .before .before .before .before .before .before .before in
+    let start = at-lists-at .before .before .before .before .before .before .before in
     let g = start .args .given .now in
     let dumps = start .args .dumps .now in
     let ss = start .args .sequentials .now in
     let initial = start .args .initial .now in
     let later = start .args .later .now in
-    let ins = start .args .inputs .now in
-    let reps = start .args .replies .now in
+    let ins = (inputsIn (start .args .given .now) (start .args .call .now)) in
+    let reps = (repliesIn (start .args .given .now) (start .args .call .now)) in
     let r = length (start .args .result .now) in
     let s = length (start .args .scratch .now) in
-    let minimise = start .args .minimise in
+    let minimise = (minimiseIn (start .args .call .now)) in
     let u = start .pre in
     let place = at-lists-at .lists-at .ensures in
     let R-same = at-begin .begin .kept .1 .1 .0 in
@@ -216,8 +218,8 @@ same-length-5 c =
     let at-visit-all = at-fold-bads .before .before .before .before .before .before .before .before .before .before .before in
     let at-begin = at-visit-all .before .before .before .before .before .before .before .before in
     let R-same = at-begin .begin .kept .1 .1 .0 in
-    let Q-same = at-visit-all .visit-all .kept .1 .1 .1 .1 .0 in
-    at-fold-bads .fold-bads .kept .1 .1 .1 .1 .1 .1 .1 .1 .1 .0 ∙ Q-same ∙ R-same
+    let Q-same = at-visit-all .visit-all .kept .1 .0 in
+    at-fold-bads .fold-bads .kept .1 .1 .1 .1 .1 .0 ∙ Q-same ∙ R-same
 
 same-length-6 : tie.Need-same-length-6
 same-length-6 c = search needs
@@ -231,24 +233,24 @@ returns-3 c =
     let at-untouched = at-visit-all .before in
     let at-begin = at-untouched .before .before .before .before .before .before .before in
     let at-lists-at = at-begin .before .before .before in
-    let start = at-lists-at .before .before .before .before .before .before .before .before .before .before in
+    let start = at-lists-at .before .before .before .before .before .before .before in
     let g = start .args .given .now in
     let dumps = start .args .dumps .now in
     let ss = start .args .sequentials .now in
     let initial = start .args .initial .now in
     let later = start .args .later .now in
-    let ins = start .args .inputs .now in
-    let reps = start .args .replies .now in
+    let ins = (inputsIn (start .args .given .now) (start .args .call .now)) in
+    let reps = (repliesIn (start .args .given .now) (start .args .call .now)) in
     let r = length (start .args .result .now) in
     let s = length (start .args .scratch .now) in
-    let minimise = start .args .minimise in
+    let minimise = (minimiseIn (start .args .call .now)) in
     let u = start .pre in
     let place = at-lists-at .lists-at .ensures in
     let R-same = at-begin .begin .kept .1 .1 .0 in
     let S-same = at-begin .begin .kept .1 .1 .1 .0 in
     let fewer = at-begin .begin .ensures .1 in
     let judged = at-begin .begin .ensures .0 in
-    let Q-same = at-visit-all .visit-all .kept .1 .1 .1 .1 .0 in
+    let Q-same = at-visit-all .visit-all .kept .1 .0 in
     let goes = at-visit-all .visit-all .ensures .0 in
     let still = at-visit-all .visit-all .ensures .1 .1 in
     let terminate = start .args .terminate in
@@ -257,24 +259,4 @@ returns-3 c =
     run-ends g dumps ss initial later ins reps r s u minimise _ _ _ _ R-same S-same place fewer judged _ _ _ fresh-walk _ goes terminate one false (at-if1 .if1 .left) _ (at-walked2 .walked2 .given .1) still _ (Q-same ∙ R-same) _ _ (at-fold-bads .fold-bads .ensures (run-held g dumps ss initial later ins reps r s u minimise _ _ _ _ R-same S-same place fewer judged _ _ _ fresh-walk _ goes))
 
 pub run-spec : {M : Type 1} → statement M
-run-spec =
-    tie.close
-    (tie.spec
-    add-lists-at
-    lists-at-requires
-    begin-requires
-    untouched-requires
-    visit-all-requires
-    enum-known-walked
-    enum-known-walked-2
-    fold-once-requires
-    same-length
-    same-length-2
-    returns
-    fold-bads-requires
-    same-length-3
-    same-length-4
-    returns-2
-    same-length-5
-    same-length-6
-    returns-3)
+run-spec = tie.close (tie.spec add-lists-at lists-at-requires begin-requires untouched-requires visit-all-requires enum-known-walked enum-known-walked-2 fold-once-requires same-length same-length-2 returns fold-bads-requires same-length-3 same-length-4 returns-2 same-length-5 same-length-6 returns-3)

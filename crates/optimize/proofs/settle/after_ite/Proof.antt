@@ -4,17 +4,21 @@ use borrow.Author.Needs.{needs}
 use mathlib.Core.Path.{_≡_, refl, ap, sym, _∙_}
 use native.Mathlib.Omega.{arith}
 use borrow.Author.Tests.{not-true, not-false}
-use Prim.Native.Nat.{ℕ, _+_}
-use lib.ListN.{length}
-use Rattle.rules.specs.Fold.{swap, stays}
 use Rattle.optimize.specs.View.{view, outcomeOf, foldIs, countOf, tableOf, waysIn, constantIs}
-use Rattle.optimize.specs.Process.{solvedOf, thenAsk, settleThen, bitOf}
-use Rattle.optimize.proofs.Finishes.{finish-quiet, ite-bit, ite-word, ite-other}
+use Rattle.rules.specs.Fold.{stays}
+use Rattle.optimize.proofs.Finishes.{finish-quiet, ite-bit, ite-word, ite-other, ite-by}
+use Rattle.optimize.specs.CallWords.{repliesIn, minimiseIn, waysBy}
+use Rattle.optimize.specs.Counters.{walkIn}
 use Rattle.optimize.proofs.settle.after_ite.Statement.{statement}
 use Rattle.optimize.proofs.settle.after_ite.Tie as tie
 
+minimises-requires : tie.Need-minimises-requires
+minimises-requires c κs = search needs
+
 settle-requires : tie.Need-settle-requires
-settle-requires c κs = search needs
+settle-requires c κs =
+    let start = c .before .before .before .before .before .before .before .before in
+    let r = start .pre .0 in ((omega (arith, r .whole), r .small, r .inside), ((r .room, omega (arith, r .asks)), (r .few, start .pre .1)))
 
 same-length : tie.Need-same-length
 same-length c = search needs
@@ -25,28 +29,21 @@ same-length-2 c = search needs
 returns : tie.Need-returns
 returns c =
     let at-settle = c .before .before .before .before in
-    let at-if1 = at-settle .before .before .before in
-    let start = at-if1 .before .before .before .before .before in
-    λ h inputs dumps. at-settle .settle .ensures h inputs _ (waysIn dumps (start .args .minimise) (start .args .replies .now)) ∙ finish-quiet (start .args .given .now) (waysIn dumps (start .args .minimise) (start .args .replies .now)) (start .args .node) (view h (start .args .given .now) inputs (start .args .replies .now) (start .args .result .now) (start .args .scratch .now) (start .args .walk)) stays _ refl (not-true _ (at-if1 .if1 .taken))
+    let at-if1 = at-settle .before .before .before .before in
+    let at-minimises = at-if1 .before in
+    let start = at-minimises .before .before .before .before in
+    λ h inputs dumps. at-settle .settle .ensures h inputs _ (waysBy (start .args .given .now) dumps (start .args .call .now)) ∙ finish-quiet (start .args .given .now) (waysBy (start .args .given .now) dumps (start .args .call .now)) (start .args .node) (view h (start .args .given .now) inputs (repliesIn (start .args .given .now) (start .args .call .now)) (start .args .result .now) (start .args .scratch .now) (walkIn (start .args .counters .now))) stays _ refl (sym (at-minimises .minimises .ensures) ∙ not-true _ (at-if1 .if1 .taken))
 
 word-requires : tie.Need-word-requires
 word-requires c κs = search needs
 
-ask-bit-requires : tie.Need-ask-bit-requires
-ask-bit-requires c κs = search needs
+replies-in-requires : tie.Need-replies-in-requires
+replies-in-requires c κs = search needs
 
-then-ask-requires : tie.Need-then-ask-requires
-then-ask-requires c κs =
-    let at-ask-bit = c .before .before .before in
-    let start = at-ask-bit .before .before .before .before .before .before .before .before .before in
-    let r = start .pre in ((omega (arith, r .whole), r .small), λ w f e. omega (arith, r .asks, at-ask-bit .ask-bit .ensures .1 w f e .1, at-ask-bit .ask-bit .kept .1 .1 .0))
-
-settle-solved-requires : tie.Need-settle-solved-requires
-settle-solved-requires c κs =
-    let at-then-ask = c .before .before .before .before in
-    let at-ask-bit = at-then-ask .before .before .before .before in
-    let start = at-ask-bit .before .before .before .before .before .before .before .before .before in
-    let r = start .pre in ((omega (arith, r .whole), r .small, r .inside), ((r .room, omega (arith, r .asks, at-ask-bit .ask-bit .kept .1 .1 .0, at-then-ask .then-ask .kept .1 .1 .0)), λ w f e. omega (arith, r .few, at-then-ask .then-ask .ensures .1 _ ((start .args .walk) .asked + 2) (at-ask-bit .ask-bit .ensures .1) w f e .0)))
+solve-ite-bit-requires : tie.Need-solve-ite-bit-requires
+solve-ite-bit-requires c κs =
+    let start = c .before .before .before .before .before .before .before .before .before .before .before in
+    start .pre
 
 same-length-3 : tie.Need-same-length-3
 same-length-3 c = search needs
@@ -56,30 +53,22 @@ same-length-4 c = search needs
 
 returns-2 : tie.Need-returns-2
 returns-2 c =
-    let at-settle-solved = c .before .before .before .before in
-    let at-then-ask = at-settle-solved .before .before .before .before .before in
-    let at-ask-bit = at-then-ask .before .before .before .before in
-    let at-if2 = at-ask-bit .before .before in
+    let at-solve-ite-bit = c .before .before .before .before in
+    let at-replies-in = at-solve-ite-bit .before .before .before .before in
+    let at-if2 = at-replies-in .before in
     let at-word = at-if2 .before in
     let at-if1 = at-word .before in
-    let start = at-if1 .before .before .before .before .before in
-    λ h inputs dumps. at-settle-solved .settle-solved .ensures h inputs _ (waysIn dumps (start .args .minimise) (start .args .replies .now)) ∙ ap (settleThen (start .args .given .now) (waysIn dumps (start .args .minimise) (start .args .replies .now)) (start .args .node)) (at-then-ask .then-ask .ensures .0 h inputs _ ∙ ap (λ o. thenAsk (length (start .args .replies .now)) 3 (start .args .node) (start .args .x) (swap (start .args .x)) o) (at-ask-bit .ask-bit .ensures .0 h inputs _)) ∙ ite-bit (start .args .given .now) (waysIn dumps (start .args .minimise) (start .args .replies .now)) (start .args .node) (view h (start .args .given .now) inputs (start .args .replies .now) (start .args .result .now) (start .args .scratch .now) (start .args .walk)) (start .args .x) (start .args .y) (start .args .z) (not-false _ (at-if1 .if1 .left)) (sym (at-word .word .ensures) ∙ at-if2 .if2 .taken)
+    let at-minimises = at-if1 .before in
+    let start = at-minimises .before .before .before .before in
+    λ h inputs dumps. ite-by h (start .args .given .now) inputs dumps _ _ (start .args .result .now) (start .args .scratch .now) (walkIn (start .args .counters .now)) (minimiseIn (start .args .call .now)) (start .args .node) _ _ _ (at-replies-in .replies-in .ensures) (start .args .x) (start .args .y) (start .args .z) (at-solve-ite-bit .solve-ite-bit .ensures h inputs _ ∙ ite-bit (start .args .given .now) _ (start .args .node) _ (start .args .x) (start .args .y) (start .args .z) (sym (at-minimises .minimises .ensures) ∙ not-false _ (at-if1 .if1 .left)) (sym (at-word .word .ensures) ∙ at-if2 .if2 .taken))
 
-ask-or-requires : tie.Need-ask-or-requires
-ask-or-requires c κs = search needs
+replies-in-requires-2 : tie.Need-replies-in-requires-2
+replies-in-requires-2 c κs = search needs
 
-then-ask-requires-2 : tie.Need-then-ask-requires-2
-then-ask-requires-2 c κs =
-    let at-ask-or = c .before .before .before in
-    let start = at-ask-or .before .before .before .before .before .before .before .before .before .before in
-    let r = start .pre in ((omega (arith, r .whole), r .small), λ w f e. omega (arith, r .asks, at-ask-or .ask-or .ensures .1 w f e .1, at-ask-or .ask-or .kept .1 .1 .0))
-
-settle-solved-requires-2 : tie.Need-settle-solved-requires-2
-settle-solved-requires-2 c κs =
-    let at-then-ask2 = c .before .before .before .before in
-    let at-ask-or = at-then-ask2 .before .before .before .before in
-    let start = at-ask-or .before .before .before .before .before .before .before .before .before .before in
-    let r = start .pre in ((omega (arith, r .whole), r .small, r .inside), ((r .room, omega (arith, r .asks, at-ask-or .ask-or .kept .1 .1 .0, at-then-ask2 .then-ask2 .kept .1 .1 .0)), λ w f e. omega (arith, r .few, at-then-ask2 .then-ask2 .ensures .1 _ ((start .args .walk) .asked + 1) (λ v q d. let y = at-ask-or .ask-or .ensures .1 v q d in (y .0, omega (arith, y .1))) w f e .0)))
+solve-ite-word-requires : tie.Need-solve-ite-word-requires
+solve-ite-word-requires c κs =
+    let start = c .before .before .before .before .before .before .before .before .before .before .before .before in
+    start .pre
 
 same-length-5 : tie.Need-same-length-5
 same-length-5 c = search needs
@@ -89,18 +78,20 @@ same-length-6 c = search needs
 
 returns-3 : tie.Need-returns-3
 returns-3 c =
-    let at-settle-solved2 = c .before .before .before .before in
-    let at-then-ask2 = at-settle-solved2 .before .before .before .before .before in
-    let at-ask-or = at-then-ask2 .before .before .before .before in
-    let at-if3 = at-ask-or .before .before in
+    let at-solve-ite-word = c .before .before .before .before in
+    let at-replies-in2 = at-solve-ite-word .before .before .before .before in
+    let at-if3 = at-replies-in2 .before in
     let at-if2 = at-if3 .before in
     let at-word = at-if2 .before in
     let at-if1 = at-word .before in
-    let start = at-if1 .before .before .before .before .before in
-    λ h inputs dumps. at-settle-solved2 .settle-solved2 .ensures h inputs _ (waysIn dumps (start .args .minimise) (start .args .replies .now)) ∙ ap (settleThen (start .args .given .now) (waysIn dumps (start .args .minimise) (start .args .replies .now)) (start .args .node)) (at-then-ask2 .then-ask2 .ensures .0 h inputs _ ∙ ap (λ o. thenAsk (length (start .args .replies .now)) 3 (start .args .node) (start .args .z) (swap (start .args .z)) o) (at-ask-or .ask-or .ensures .0 h inputs _)) ∙ ite-word (start .args .given .now) (waysIn dumps (start .args .minimise) (start .args .replies .now)) (start .args .node) (view h (start .args .given .now) inputs (start .args .replies .now) (start .args .result .now) (start .args .scratch .now) (start .args .walk)) (start .args .x) (start .args .y) (start .args .z) (not-false _ (at-if1 .if1 .left)) (λ e. at-if2 .if2 .left (at-word .word .ensures ∙ e)) (sym (at-word .word .ensures) ∙ at-if3 .if3 .taken)
+    let at-minimises = at-if1 .before in
+    let start = at-minimises .before .before .before .before in
+    λ h inputs dumps. ite-by h (start .args .given .now) inputs dumps _ _ (start .args .result .now) (start .args .scratch .now) (walkIn (start .args .counters .now)) (minimiseIn (start .args .call .now)) (start .args .node) _ _ _ (at-replies-in2 .replies-in2 .ensures) (start .args .x) (start .args .y) (start .args .z) (at-solve-ite-word .solve-ite-word .ensures h inputs _ ∙ ite-word (start .args .given .now) _ (start .args .node) _ (start .args .x) (start .args .y) (start .args .z) (sym (at-minimises .minimises .ensures) ∙ not-false _ (at-if1 .if1 .left)) (λ e. at-if2 .if2 .left (at-word .word .ensures ∙ e)) (sym (at-word .word .ensures) ∙ at-if3 .if3 .taken))
 
 settle-requires-2 : tie.Need-settle-requires-2
-settle-requires-2 c κs = search needs
+settle-requires-2 c κs =
+    let start = c .before .before .before .before .before .before .before .before .before .before .before in
+    let r = start .pre .0 in ((omega (arith, r .whole), r .small, r .inside), ((r .room, omega (arith, r .asks)), (r .few, start .pre .1)))
 
 same-length-7 : tie.Need-same-length-7
 same-length-7 c = search needs
@@ -111,35 +102,13 @@ same-length-8 c = search needs
 returns-4 : tie.Need-returns-4
 returns-4 c =
     let at-settle2 = c .before .before .before .before in
-    let at-if3 = at-settle2 .before .before .before in
+    let at-if3 = at-settle2 .before .before .before .before in
     let at-if2 = at-if3 .before in
     let at-word = at-if2 .before in
     let at-if1 = at-word .before in
-    let start = at-if1 .before .before .before .before .before in
-    λ h inputs dumps. at-settle2 .settle2 .ensures h inputs _ (waysIn dumps (start .args .minimise) (start .args .replies .now)) ∙ ite-other (start .args .given .now) (waysIn dumps (start .args .minimise) (start .args .replies .now)) (start .args .node) (view h (start .args .given .now) inputs (start .args .replies .now) (start .args .result .now) (start .args .scratch .now) (start .args .walk)) (start .args .x) (start .args .y) (start .args .z) (not-false _ (at-if1 .if1 .left)) (λ e. at-if2 .if2 .left (at-word .word .ensures ∙ e)) (λ e. at-if3 .if3 .left (at-word .word .ensures ∙ e))
+    let at-minimises = at-if1 .before in
+    let start = at-minimises .before .before .before .before in
+    λ h inputs dumps. at-settle2 .settle2 .ensures h inputs _ (waysBy (start .args .given .now) dumps (start .args .call .now)) ∙ ite-other (start .args .given .now) (waysBy (start .args .given .now) dumps (start .args .call .now)) (start .args .node) (view h (start .args .given .now) inputs (repliesIn (start .args .given .now) (start .args .call .now)) (start .args .result .now) (start .args .scratch .now) (walkIn (start .args .counters .now))) (start .args .x) (start .args .y) (start .args .z) (sym (at-minimises .minimises .ensures) ∙ not-false _ (at-if1 .if1 .left)) (λ e. at-if2 .if2 .left (at-word .word .ensures ∙ e)) (λ e. at-if3 .if3 .left (at-word .word .ensures ∙ e))
 
 pub after-ite-spec : {M : Type 1} → statement M
-after-ite-spec =
-    tie.close
-    (tie.spec
-    settle-requires
-    same-length
-    same-length-2
-    returns
-    word-requires
-    ask-bit-requires
-    then-ask-requires
-    settle-solved-requires
-    same-length-3
-    same-length-4
-    returns-2
-    ask-or-requires
-    then-ask-requires-2
-    settle-solved-requires-2
-    same-length-5
-    same-length-6
-    returns-3
-    settle-requires-2
-    same-length-7
-    same-length-8
-    returns-4)
+after-ite-spec = tie.close (tie.spec minimises-requires settle-requires same-length same-length-2 returns word-requires replies-in-requires solve-ite-bit-requires same-length-3 same-length-4 returns-2 replies-in-requires-2 solve-ite-word-requires same-length-5 same-length-6 returns-3 settle-requires-2 same-length-7 same-length-8 returns-4)

@@ -6,7 +6,9 @@ use borrow.Author.Tests.{not-true, not-false}
 use Rattle.optimize.specs.View.{view, outcomeOf, foldIs, countOf, tableOf, waysIn, constantIs}
 use Rattle.optimize.specs.Process.{solvedOf, thenAsk, settleThen, bitOf}
 use native.Mathlib.Omega.{arith}
-use Rattle.optimize.proofs.Finishes.{finish-folded, finish-quiet, finish-asks, quiet-stays, bit-asks}
+use Rattle.optimize.proofs.Finishes.{finish-folded, finish-quiet, quiet-stays, finish-by}
+use Rattle.optimize.specs.CallWords.{repliesIn, minimiseIn, waysBy}
+use Rattle.optimize.specs.Counters.{walkIn}
 use Rattle.optimize.proofs.settle.finish.Statement.{statement}
 use Rattle.optimize.proofs.settle.finish.Tie as tie
 
@@ -14,7 +16,9 @@ is-stays-requires : tie.Need-is-stays-requires
 is-stays-requires c κs = search needs
 
 settle-requires : tie.Need-settle-requires
-settle-requires c κs = search needs
+settle-requires c κs =
+    let start = c .before .before .before .before .before .before .before .before in
+    let r = start .pre .0 in ((omega (arith, r .whole), r .small, r .inside), ((r .room, omega (arith, r .asks)), (r .few, start .pre .1)))
 
 same-length : tie.Need-same-length
 same-length c = search needs
@@ -25,13 +29,18 @@ same-length-2 c = search needs
 returns : tie.Need-returns
 returns c =
     let at-settle = c .before .before .before .before in
-    let at-if1 = at-settle .before .before .before in
+    let at-if1 = at-settle .before .before .before .before in
     let at-is-stays = at-if1 .before in
-    let start = at-is-stays .before .before .before .before .before in
-    λ h inputs dumps. at-settle .settle .ensures h inputs _ (waysIn dumps (start .args .minimise) (start .args .replies .now)) ∙ finish-folded (start .args .given .now) (waysIn dumps (start .args .minimise) (start .args .replies .now)) (start .args .node) (view h (start .args .given .now) inputs (start .args .replies .now) (start .args .result .now) (start .args .scratch .now) (start .args .walk)) (foldIs (start .args .fold)) (bitOf (start .args .given .now) (waysIn dumps (start .args .minimise) (start .args .replies .now)) (start .args .node) (start .args .bit)) (sym (at-is-stays .is-stays .ensures) ∙ not-true _ (at-if1 .if1 .taken))
+    let start = at-is-stays .before .before .before .before in
+    λ h inputs dumps. at-settle .settle .ensures h inputs _ (waysBy (start .args .given .now) dumps (start .args .call .now)) ∙ finish-folded (start .args .given .now) (waysBy (start .args .given .now) dumps (start .args .call .now)) (start .args .node) (view h (start .args .given .now) inputs (repliesIn (start .args .given .now) (start .args .call .now)) (start .args .result .now) (start .args .scratch .now) (walkIn (start .args .counters .now))) (foldIs (start .args .fold)) (bitOf (start .args .given .now) (waysBy (start .args .given .now) dumps (start .args .call .now)) (start .args .node) (start .args .bit)) (sym (at-is-stays .is-stays .ensures) ∙ not-true _ (at-if1 .if1 .taken))
+
+minimises-requires : tie.Need-minimises-requires
+minimises-requires c κs = search needs
 
 settle-requires-2 : tie.Need-settle-requires-2
-settle-requires-2 c κs = search needs
+settle-requires-2 c κs =
+    let start = c .before .before .before .before .before .before .before .before .before .before in
+    let r = start .pre .0 in ((omega (arith, r .whole), r .small, r .inside), ((r .room, omega (arith, r .asks)), (r .few, start .pre .1)))
 
 same-length-3 : tie.Need-same-length-3
 same-length-3 c = search needs
@@ -42,14 +51,17 @@ same-length-4 c = search needs
 returns-2 : tie.Need-returns-2
 returns-2 c =
     let at-settle2 = c .before .before .before .before in
-    let at-if2 = at-settle2 .before .before .before in
-    let at-if1 = at-if2 .before in
+    let at-if2 = at-settle2 .before .before .before .before in
+    let at-minimises = at-if2 .before in
+    let at-if1 = at-minimises .before in
     let at-is-stays = at-if1 .before in
-    let start = at-is-stays .before .before .before .before .before in
-    λ h inputs dumps. at-settle2 .settle2 .ensures h inputs _ (waysIn dumps (start .args .minimise) (start .args .replies .now)) ∙ finish-quiet (start .args .given .now) (waysIn dumps (start .args .minimise) (start .args .replies .now)) (start .args .node) (view h (start .args .given .now) inputs (start .args .replies .now) (start .args .result .now) (start .args .scratch .now) (start .args .walk)) (foldIs (start .args .fold)) (bitOf (start .args .given .now) (waysIn dumps (start .args .minimise) (start .args .replies .now)) (start .args .node) (start .args .bit)) (sym (at-is-stays .is-stays .ensures) ∙ not-false _ (at-if1 .if1 .left)) (not-true _ (at-if2 .if2 .taken))
+    let start = at-is-stays .before .before .before .before in
+    λ h inputs dumps. at-settle2 .settle2 .ensures h inputs _ (waysBy (start .args .given .now) dumps (start .args .call .now)) ∙ finish-quiet (start .args .given .now) (waysBy (start .args .given .now) dumps (start .args .call .now)) (start .args .node) (view h (start .args .given .now) inputs (repliesIn (start .args .given .now) (start .args .call .now)) (start .args .result .now) (start .args .scratch .now) (walkIn (start .args .counters .now))) (foldIs (start .args .fold)) (bitOf (start .args .given .now) (waysBy (start .args .given .now) dumps (start .args .call .now)) (start .args .node) (start .args .bit)) (sym (at-is-stays .is-stays .ensures) ∙ not-false _ (at-if1 .if1 .left)) (sym (at-minimises .minimises .ensures) ∙ not-true _ (at-if2 .if2 .taken))
 
 settle-requires-3 : tie.Need-settle-requires-3
-settle-requires-3 c κs = search needs
+settle-requires-3 c κs =
+    let start = c .before .before .before .before .before .before .before .before .before .before .before in
+    let r = start .pre .0 in ((omega (arith, r .whole), r .small, r .inside), ((r .room, omega (arith, r .asks)), (r .few, start .pre .1)))
 
 same-length-5 : tie.Need-same-length-5
 same-length-5 c = search needs
@@ -60,21 +72,21 @@ same-length-6 c = search needs
 returns-3 : tie.Need-returns-3
 returns-3 c =
     let at-settle3 = c .before .before .before .before in
-    let at-if3 = at-settle3 .before .before .before in
+    let at-if3 = at-settle3 .before .before .before .before in
     let at-if2 = at-if3 .before in
-    let at-if1 = at-if2 .before in
+    let at-minimises = at-if2 .before in
+    let at-if1 = at-minimises .before in
     let at-is-stays = at-if1 .before in
-    let start = at-is-stays .before .before .before .before .before in
-    λ h inputs dumps. at-settle3 .settle3 .ensures h inputs _ (waysIn dumps (start .args .minimise) (start .args .replies .now)) ∙ quiet-stays (start .args .given .now) (waysIn dumps (start .args .minimise) (start .args .replies .now)) (start .args .node) (view h (start .args .given .now) inputs (start .args .replies .now) (start .args .result .now) (start .args .scratch .now) (start .args .walk)) (foldIs (start .args .fold)) (start .args .bit) (not-false _ (at-if2 .if2 .left)) (sym (at-is-stays .is-stays .ensures) ∙ not-false _ (at-if1 .if1 .left)) (not-true _ (at-if3 .if3 .taken))
+    let start = at-is-stays .before .before .before .before in
+    λ h inputs dumps. at-settle3 .settle3 .ensures h inputs _ (waysBy (start .args .given .now) dumps (start .args .call .now)) ∙ quiet-stays (start .args .given .now) (waysBy (start .args .given .now) dumps (start .args .call .now)) (start .args .node) (view h (start .args .given .now) inputs (repliesIn (start .args .given .now) (start .args .call .now)) (start .args .result .now) (start .args .scratch .now) (walkIn (start .args .counters .now))) (foldIs (start .args .fold)) (start .args .bit) (sym (at-minimises .minimises .ensures) ∙ not-false _ (at-if2 .if2 .left)) (sym (at-is-stays .is-stays .ensures) ∙ not-false _ (at-if1 .if1 .left)) (not-true _ (at-if3 .if3 .taken))
 
-ask-bit-requires : tie.Need-ask-bit-requires
-ask-bit-requires c κs = search needs
+replies-in-requires : tie.Need-replies-in-requires
+replies-in-requires c κs = search needs
 
-settle-solved-requires : tie.Need-settle-solved-requires
-settle-solved-requires c κs =
-    let at-ask-bit = c .before .before .before .before in
-    let start = at-ask-bit .before .before .before .before .before .before .before .before .before .before in
-    let r = start .pre in ((omega (arith, r .whole), r .small, r .inside), ((r .room, omega (arith, r .asks, at-ask-bit .ask-bit .kept .1 .1 .0)), λ w f e. omega (arith, r .few, at-ask-bit .ask-bit .ensures .1 w f e .0)))
+solve-boolean-binary-requires : tie.Need-solve-boolean-binary-requires
+solve-boolean-binary-requires c κs =
+    let start = c .before .before .before .before .before .before .before .before .before .before .before .before in
+    start .pre
 
 same-length-7 : tie.Need-same-length-7
 same-length-7 c = search needs
@@ -84,34 +96,15 @@ same-length-8 c = search needs
 
 returns-4 : tie.Need-returns-4
 returns-4 c =
-    let at-settle-solved = c .before .before .before .before in
-    let at-ask-bit = at-settle-solved .before .before .before .before .before in
-    let at-if3 = at-ask-bit .before .before in
+    let at-solve-boolean-binary = c .before .before .before .before in
+    let at-replies-in = at-solve-boolean-binary .before .before .before .before in
+    let at-if3 = at-replies-in .before in
     let at-if2 = at-if3 .before in
-    let at-if1 = at-if2 .before in
+    let at-minimises = at-if2 .before in
+    let at-if1 = at-minimises .before in
     let at-is-stays = at-if1 .before in
-    let start = at-is-stays .before .before .before .before .before in
-    λ h inputs dumps. at-settle-solved .settle-solved .ensures h inputs _ (waysIn dumps (start .args .minimise) (start .args .replies .now)) ∙ ap (settleThen (start .args .given .now) (waysIn dumps (start .args .minimise) (start .args .replies .now)) (start .args .node)) (at-ask-bit .ask-bit .ensures .0 h inputs _ ∙ bit-asks (start .args .given .now) (waysIn dumps (start .args .minimise) (start .args .replies .now)) (start .args .node) (start .args .bit) _ (not-false _ (at-if3 .if3 .left))) ∙ finish-asks (start .args .given .now) (waysIn dumps (start .args .minimise) (start .args .replies .now)) (start .args .node) (view h (start .args .given .now) inputs (start .args .replies .now) (start .args .result .now) (start .args .scratch .now) (start .args .walk)) (foldIs (start .args .fold)) (bitOf (start .args .given .now) (waysIn dumps (start .args .minimise) (start .args .replies .now)) (start .args .node) (start .args .bit)) (sym (at-is-stays .is-stays .ensures) ∙ not-false _ (at-if1 .if1 .left)) (not-false _ (at-if2 .if2 .left))
+    let start = at-is-stays .before .before .before .before in
+    λ h inputs dumps. finish-by h (start .args .given .now) inputs dumps _ _ (start .args .result .now) (start .args .scratch .now) (walkIn (start .args .counters .now)) (minimiseIn (start .args .call .now)) (start .args .node) _ _ _ (at-replies-in .replies-in .ensures) (foldIs (start .args .fold)) (start .args .bit) (sym (at-is-stays .is-stays .ensures) ∙ not-false _ (at-if1 .if1 .left)) (sym (at-minimises .minimises .ensures) ∙ not-false _ (at-if2 .if2 .left)) (not-false _ (at-if3 .if3 .left)) (at-solve-boolean-binary .solve-boolean-binary .ensures h inputs _)
 
 pub finish-spec : {M : Type 1} → statement M
-finish-spec =
-    tie.close
-    (tie.spec
-    is-stays-requires
-    settle-requires
-    same-length
-    same-length-2
-    returns
-    settle-requires-2
-    same-length-3
-    same-length-4
-    returns-2
-    settle-requires-3
-    same-length-5
-    same-length-6
-    returns-3
-    ask-bit-requires
-    settle-solved-requires
-    same-length-7
-    same-length-8
-    returns-4)
+finish-spec = tie.close (tie.spec is-stays-requires settle-requires same-length same-length-2 returns minimises-requires settle-requires-2 same-length-3 same-length-4 returns-2 settle-requires-3 same-length-5 same-length-6 returns-3 replies-in-requires solve-boolean-binary-requires same-length-7 same-length-8 returns-4)

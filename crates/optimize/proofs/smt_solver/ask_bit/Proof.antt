@@ -15,29 +15,30 @@ use Rattle.optimize.proofs.smt_solver.ask_bit.Tie as tie
 node-count-requires : tie.Need-node-count-requires
 node-count-requires c κs = search needs
 
-add-t10 : tie.Need-add-t10
-add-t10 c = search needs
+add-t11 : tie.Need-add-t11
+add-t11 c = search needs
 
 ask-or-requires : tie.Need-ask-or-requires
-ask-or-requires c κs = search needs
+ask-or-requires c κs =
+    let start = c .before .before .before .before .before .before in
+    (start .pre .0, (omega (arith, start .pre .1 .0), start .pre .1 .1))
 
 then-ask-requires : tie.Need-then-ask-requires
 then-ask-requires c κs =
-    let at-ask-or = c .before .before .before in
-    let start = at-ask-or .before .before .before .before .before .before in
-    (start .pre .0, λ w f e. omega (arith, at-ask-or .ask-or .ensures .1 w f e .1, start .pre .1, at-ask-or .ask-or .kept .1 .1 .0))
+    let at-ask-or = c .before .before .before .before in
+    let start = at-ask-or .before .before .before .before .before .before .before in
+    (start .pre .0, omega (arith, start .pre .1 .0, at-ask-or .ask-or .ensures .1 .1, at-ask-or .ask-or .kept .1 .1 .0))
 
 same-length : tie.Need-same-length
 same-length c = search needs
 
 returns : tie.Need-returns
 returns c =
-    let at-ask-or = c .before .before .before .before .before .before in
-    let at-node-count = at-ask-or .before .before in
+    let at-then-ask = c .before .before in
+    let at-ask-or = at-then-ask .before .before .before .before .before in
+    let at-node-count = at-ask-or .before .before .before in
     let start = at-node-count .before .before .before .before in
-    ((λ h inputs R. c .before .before .then-ask .ensures .0 h inputs R ∙ ap (λ o. thenAsk (length (start .args .replies .now)) 2 (start .args .node) 0 (swap (at-node-count .node-count .result)) o) (at-ask-or .ask-or .ensures .0 h inputs R) ∙ rw (at-node-count .node-count .ensures) (chain-bit (length (start .args .replies .now)) (countOf (start .args .given .now)) (start .args .node) _)), λ w f e. let z = c .before .before .then-ask .ensures .1 _ (start .args .walk .asked + 1) (λ v q d. let y = at-ask-or .ask-or .ensures .1 v q d in (y .0, omega (arith, y .1))) w f e in (z .0, omega (arith, z .1)))
+    ((λ h inputs R. at-then-ask .then-ask .ensures .0 h inputs R ∙ ap (λ o. thenAsk (length (start .args .replies .now)) 2 (start .args .node) 0 (swap (at-node-count .node-count .result)) o) (at-ask-or .ask-or .ensures .0 h inputs R) ∙ rw (at-node-count .node-count .ensures) (chain-bit (length (start .args .replies .now)) (countOf (start .args .given .now)) (start .args .node) _)), (at-then-ask .then-ask .ensures .1 .0 ∙ at-ask-or .ask-or .ensures .1 .0, omega (arith, at-then-ask .then-ask .ensures .1 .1, at-ask-or .ask-or .ensures .1 .1)))
 
 pub ask-bit-spec : {M : Type 1} → statement M
-ask-bit-spec =
-    tie.close
-    (tie.spec node-count-requires add-t10 ask-or-requires then-ask-requires same-length returns)
+ask-bit-spec = tie.close (tie.spec node-count-requires add-t11 ask-or-requires then-ask-requires same-length returns)

@@ -2,12 +2,14 @@
 -- Assumes nothing.
 use borrow.Author.Needs.{needs}
 use native.Mathlib.Omega.{arith}
-use mathlib.Core.Path.{sym, subst}
 use Rattle.optimize.specs.View.{view, waysIn, Meets}
 use Rattle.optimize.specs.Process.{visitOf, processOf}
 use Rattle.optimize.specs.Laid.{Laid}
 use Rattle.optimize.proofs.Walks.{deep, mark-0, again-fresh}
+use mathlib.Core.Path.{ap, sym, subst}
+use Rattle.optimize.specs.Counters.{walkIn, refusedIn}
 use Rattle.optimize.proofs.CounterLaws.{entered}
+use Rattle.optimize.specs.CallWords.{inputsIn, repliesIn, minimiseIn, waysBy}
 use Rattle.optimize.proofs.visit.visit_entry.Statement.{statement}
 use Rattle.optimize.proofs.visit.visit_entry.Tie as tie
 
@@ -16,20 +18,20 @@ put-walk-requires c κs = search needs
 
 mul-if1 : tie.Need-mul-if1
 mul-if1 c =
-    let start = c .before .before .before .before .before .before .before .before in
+    let start = c .before .before .before .before .before in
     omega (arith, (start .pre .0) .asks, (start .pre .1))
 
 slice-read-if1 : tie.Need-slice-read-if1
 slice-read-if1 c =
-    let start = c .before .before .before .before .before .before .before .before .before in
+    let start = c .before .before .before .before .before .before in
     omega (arith, (start .pre .0) .asks, (start .pre .1))
 
 process-requires : tie.Need-process-requires
 process-requires c κs =
     let at-if1 = c .before .before .before in
     let at-put-walk = at-if1 .before .before in
-    let start = at-put-walk .before .before .before .before .before .before .before .before in
-    ((subst (λ w. Laid (start .args .given .now) (start .args .dumps .now) (start .args .inputs .now) (start .args .replies .now) (start .args .minimise) (start .args .result .now) (start .args .scratch .now) w) (sym (at-put-walk .put-walk .ensures .0)) (start .pre .0)), ((start .pre .1), (mark-0 _ _ _ (start .pre .1) (at-if1 .if1 .taken), (at-put-walk .put-walk .ensures .1))))
+    let start = at-put-walk .before .before .before .before .before in
+    ((subst (λ w. Laid (start .args .given .now) (start .args .dumps .now) (inputsIn (start .args .given .now) (start .args .call .now)) (repliesIn (start .args .given .now) (start .args .call .now)) (minimiseIn (start .args .call .now)) (start .args .result .now) (start .args .scratch .now) w) (sym (ap walkIn (at-put-walk .put-walk .ensures))) (start .pre .0)), ((start .pre .1), (mark-0 _ _ _ (start .pre .1) (at-if1 .if1 .taken), (ap refusedIn (at-put-walk .put-walk .ensures)))))
 
 visited-in-requires : tie.Need-visited-in-requires
 visited-in-requires c κs = search needs
@@ -37,26 +39,26 @@ visited-in-requires c κs = search needs
 same-length : tie.Need-same-length
 same-length c =
     let at-process = c .before .before .before .before .before .before in
-    at-process .process .kept .1 .1 .1 .1 .0
+    at-process .process .kept .1 .0
 
 same-length-2 : tie.Need-same-length-2
 same-length-2 c =
     let at-process = c .before .before .before .before .before .before in
-    at-process .process .kept .1 .1 .1 .1 .1 .0
+    at-process .process .kept .1 .1 .0
 
 returns : tie.Need-returns
 returns c =
     let at-process = c .before .before .before .before .before .before in
     let at-if1 = at-process .before .before .before .before in
     let at-put-walk = at-if1 .before .before in
-    let start = at-put-walk .before .before .before .before .before .before .before .before in
-    λ h. deep (λ f. Meets (start .args .given .now) (start .args .inputs .now) (start .args .replies .now) _ _ _ (visitOf (start .args .given .now) (waysIn (start .args .dumps .now) (start .args .minimise) (start .args .replies .now)) f (view h (start .args .given .now) (start .args .inputs .now) (start .args .replies .now) (start .args .result .now) (start .args .scratch .now) (start .args .walk)) (start .args .node))) (start .args .node) (λ f l. again-fresh (start .args .given .now) (start .args .inputs .now) (start .args .replies .now) (start .args .result .now) (start .args .scratch .now) (start .args .walk) (waysIn (start .args .dumps .now) (start .args .minimise) (start .args .replies .now)) f h (start .args .node) (start .pre .1) _ _ _ (at-if1 .if1 .taken) (entered (start .args .given .now) (start .args .inputs .now) (start .args .replies .now) (start .args .result .now) (start .args .scratch .now) _ _ _ _ _ _ _ (λ f σ. processOf (start .args .given .now) (waysIn (start .args .dumps .now) (start .args .minimise) (start .args .replies .now)) f σ (start .args .node)) (at-put-walk .put-walk .ensures .0) (c .visited-in .ensures) (at-process .process .ensures) h f l))
+    let start = at-put-walk .before .before .before .before .before in
+    λ h. deep (λ f. Meets (start .args .given .now) (inputsIn (start .args .given .now) (start .args .call .now)) (repliesIn (start .args .given .now) (start .args .call .now)) _ _ _ (visitOf (start .args .given .now) (waysBy (start .args .given .now) (start .args .dumps .now) (start .args .call .now)) f (view h (start .args .given .now) (inputsIn (start .args .given .now) (start .args .call .now)) (repliesIn (start .args .given .now) (start .args .call .now)) (start .args .result .now) (start .args .scratch .now) (start .args .walk)) (start .args .node))) (start .args .node) (λ f l. again-fresh (start .args .given .now) (inputsIn (start .args .given .now) (start .args .call .now)) (repliesIn (start .args .given .now) (start .args .call .now)) (start .args .result .now) (start .args .scratch .now) (start .args .walk) (waysBy (start .args .given .now) (start .args .dumps .now) (start .args .call .now)) f h (start .args .node) (start .pre .1) _ _ _ (at-if1 .if1 .taken) (entered (start .args .given .now) (inputsIn (start .args .given .now) (start .args .call .now)) (repliesIn (start .args .given .now) (start .args .call .now)) (start .args .result .now) (start .args .scratch .now) _ _ _ _ _ _ _ (λ f σ. processOf (start .args .given .now) (waysBy (start .args .given .now) (start .args .dumps .now) (start .args .call .now)) f σ (start .args .node)) (ap walkIn (at-put-walk .put-walk .ensures)) (c .visited-in .ensures) (at-process .process .ensures) h f l))
 
 visit-requires : tie.Need-visit-requires
 visit-requires c κs =
     let at-put-walk = c .before .before .before .before .before in
-    let start = at-put-walk .before .before .before .before .before .before .before .before in
-    ((subst (λ w. Laid (start .args .given .now) (start .args .dumps .now) (start .args .inputs .now) (start .args .replies .now) (start .args .minimise) (start .args .result .now) (start .args .scratch .now) w) (sym (at-put-walk .put-walk .ensures .0)) (start .pre .0)), ((start .pre .1), (at-put-walk .put-walk .ensures .1)))
+    let start = at-put-walk .before .before .before .before .before in
+    ((subst (λ w. Laid (start .args .given .now) (start .args .dumps .now) (inputsIn (start .args .given .now) (start .args .call .now)) (repliesIn (start .args .given .now) (start .args .call .now)) (minimiseIn (start .args .call .now)) (start .args .result .now) (start .args .scratch .now) w) (sym (ap walkIn (at-put-walk .put-walk .ensures))) (start .pre .0)), ((start .pre .1), (ap refusedIn (at-put-walk .put-walk .ensures))))
 
 visited-in-requires-2 : tie.Need-visited-in-requires-2
 visited-in-requires-2 c κs = search needs
@@ -64,19 +66,19 @@ visited-in-requires-2 c κs = search needs
 same-length-3 : tie.Need-same-length-3
 same-length-3 c =
     let at-visit = c .before .before .before .before .before .before in
-    at-visit .visit .kept .1 .1 .1 .1 .0
+    at-visit .visit .kept .1 .0
 
 same-length-4 : tie.Need-same-length-4
 same-length-4 c =
     let at-visit = c .before .before .before .before .before .before in
-    at-visit .visit .kept .1 .1 .1 .1 .1 .0
+    at-visit .visit .kept .1 .1 .0
 
 returns-2 : tie.Need-returns-2
 returns-2 c =
     let at-visit = c .before .before .before .before .before .before in
     let at-put-walk = at-visit .before .before .before .before .before .before in
-    let start = at-put-walk .before .before .before .before .before .before .before .before in
-    entered (start .args .given .now) (start .args .inputs .now) (start .args .replies .now) (start .args .result .now) (start .args .scratch .now) _ _ _ _ _ _ _ (λ f σ. visitOf (start .args .given .now) (waysIn (start .args .dumps .now) (start .args .minimise) (start .args .replies .now)) f σ (start .args .node)) (at-put-walk .put-walk .ensures .0) (c .visited-in2 .ensures) (at-visit .visit .ensures)
+    let start = at-put-walk .before .before .before .before .before in
+    entered (start .args .given .now) (inputsIn (start .args .given .now) (start .args .call .now)) (repliesIn (start .args .given .now) (start .args .call .now)) (start .args .result .now) (start .args .scratch .now) _ _ _ _ _ _ _ (λ f σ. visitOf (start .args .given .now) (waysBy (start .args .given .now) (start .args .dumps .now) (start .args .call .now)) f σ (start .args .node)) (ap walkIn (at-put-walk .put-walk .ensures)) (c .visited-in2 .ensures) (at-visit .visit .ensures)
 
 pub visit-entry-spec : {M : Type 1} → statement M
 visit-entry-spec = tie.close (tie.spec put-walk-requires mul-if1 slice-read-if1 process-requires visited-in-requires same-length same-length-2 returns visit-requires visited-in-requires-2 same-length-3 same-length-4 returns-2)

@@ -6,8 +6,8 @@ use native.Mathlib.Omega.{arith}
 use borrow.Author.Needs.{needs}
 use Rattle.tables.specs.NodeAnswers.{kindIs}
 use Rattle.optimize.specs.declared.form.Form.{Form}
-use Rattle.optimize.specs.View.{tableOf, view, waysIn}
-use Rattle.optimize.specs.Process.{constOut, takeOf, formOf, byForm}
+use Rattle.optimize.specs.View.{view}
+use Rattle.optimize.specs.Process.{formOf, byForm}
 use Rattle.optimize.proofs.Forms.{process-is, before-is}
 use Rattle.optimize.proofs.Keeps.{ready, ready-room}
 use Rattle.optimize.proofs.buffers.kind_at.Reads as kind-at-reads
@@ -23,26 +23,25 @@ use Rattle.optimize.proofs.visit.process_ite.Reads as process-ite
 use Rattle.optimize.proofs.visit.process_next.Reads as process-next
 use Rattle.optimize.proofs.visit.process.Reads as process
 use Rattle.optimize.proofs.visit.+process+process_both+process_ite+process_left+process_next+process_one+process_right+process_three+process_two+process_value+visit.Lts-process as lts
-use Rattle.optimize.proofs.visit.+process+process_both+process_ite+process_left+process_next+process_one+process_right+process_three+process_two+process_value+visit.Proof.Measures.{process-at, process-one-below, process-two-below, process-three-below, process-ite-below, process-next-below}
-use Rattle.optimize.proofs.counters.walk_in.Reads as walk-in-reads
-use Rattle.optimize.proofs.counters.keep.Reads as keep-reads
 use Rattle.optimize.specs.Counters.{walkIn}
-use Rattle.optimize.proofs.CounterLaws.{room-in}
-use Rattle.rules.specs.Fold.{stays}
 use Rattle.rules.specs.Visit.{settle}
+use Rattle.optimize.proofs.call_words.inputs_in.Reads as inputs-in-reads
+use Rattle.optimize.specs.CallWords.{inputsIn, repliesIn, minimiseIn, waysBy}
+use Rattle.optimize.proofs.Finishes.{take-by}
+use Rattle.optimize.proofs.visit.+process+process_both+process_ite+process_left+process_next+process_one+process_right+process_three+process_two+process_value+visit.Proof.Measures.{process-at, process-one-below, process-two-below, process-three-below, process-ite-below, process-next-below}
 
 module _ (t : ℕ) where
   abbrev claims : lts.Claims
-  claims = (kind-at-reads.Asked, kind-at-reads.Learnt, word-reads.Asked, word-reads.Learnt, form-of-reads.Asked, form-of-reads.Learnt, walk-in-reads.Asked, walk-in-reads.Learnt, settle-const-reads.Asked, settle-const-reads.Learnt, keep-reads.Asked, keep-reads.Learnt, settle-reads.Asked, settle-reads.Learnt, take-input-reads.Asked, take-input-reads.Learnt, process-one-below t, process-one.Post, process-two-below t, process-two.Post, process-three-below t, process-three.Post, process-ite-below t, process-ite.Post, process-next-below t, process-next.Post)
+  claims = (kind-at-reads.Asked, kind-at-reads.Learnt, word-reads.Asked, word-reads.Learnt, form-of-reads.Asked, form-of-reads.Learnt, settle-const-reads.Asked, settle-const-reads.Learnt, settle-reads.Asked, settle-reads.Learnt, inputs-in-reads.Asked, inputs-in-reads.Learnt, take-input-reads.Asked, take-input-reads.Learnt, process-one-below t, process-one.Post, process-two-below t, process-two.Post, process-three-below t, process-three.Post, process-ite-below t, process-ite.Post, process-next-below t, process-next.Post)
 
   kind-at-requires : lts.Need-kind-at-requires claims (process-at t) process.Post
   kind-at-requires c κs =
-      let start = c .before .before .before .before .before .before in
+      let start = c .before .before .before in
       omega (arith, (start .pre .1 .0) .whole, (start .pre .1 .1 .0))
 
   word-requires : lts.Need-word-requires claims (process-at t) process.Post
   word-requires c κs =
-      let start = c .before .before .before .before .before .before .before in
+      let start = c .before .before .before .before in
       omega (arith, (start .pre .1 .0) .whole, (start .pre .1 .1 .0))
 
   form-of-requires : lts.Need-form-of-requires claims (process-at t) process.Post
@@ -51,50 +50,29 @@ module _ (t : ℕ) where
   enum-told : lts.Need-enum-told claims (process-at t) process.Post
   enum-told c = search needs
 
-  walk-in-requires : lts.Need-walk-in-requires claims (process-at t) process.Post
-  walk-in-requires c κs = search needs
-
   settle-const-requires : lts.Need-settle-const-requires claims (process-at t) process.Post
   settle-const-requires c κs =
-      let start = c .before .before .before .before .before .before .before .before .before .before .before .before .before .before .before in
-      (room-in _ _ (c .walk-in .ensures) _ _ _ _ (ready-room _ _ _ _ _ _ _ _ _ (ready _ _ _ _ _ _ _ _ _ (start .pre .1 .0) (start .pre .1 .1 .0) (start .pre .1 .1 .1 .0))))
-
-  keep-requires : lts.Need-keep-requires claims (process-at t) process.Post
-  keep-requires c κs =
-      let start = c .before .before .before .before .before .before .before .before .before .before .before .before .before .before .before .before .before .before .before .before .before in
-      (start .pre .1 .1 .1 .1)
+      let start = c .before .before .before .before .before .before .before .before .before .before .before in
+      ((ready-room _ _ _ _ _ _ _ _ _ (ready _ _ _ _ _ _ _ _ _ (start .pre .1 .0) (start .pre .1 .1 .0) (start .pre .1 .1 .1 .0))), (start .pre .1 .1 .1 .1))
 
   enum-told-2 : lts.Need-enum-told-2 claims (process-at t) process.Post
   enum-told-2 c = search needs
 
-  walk-in-requires-2 : lts.Need-walk-in-requires-2 claims (process-at t) process.Post
-  walk-in-requires-2 c κs = search needs
-
   settle-requires : lts.Need-settle-requires claims (process-at t) process.Post
   settle-requires c κs =
-      let start = c .before .before .before .before .before .before .before .before .before .before .before .before .before .before .before in
-      let q = (room-in _ _ (c .walk-in2 .ensures) _ _ _ _ (ready-room _ _ _ _ _ _ _ _ _ (ready _ _ _ _ _ _ _ _ _ (start .pre .1 .0) (start .pre .1 .1 .0) (start .pre .1 .1 .1 .0)))) in ((omega (arith, q .whole), q .small, q .inside), ((q .room, omega (arith, q .asks)), q .few))
-
-  keep-requires-2 : lts.Need-keep-requires-2 claims (process-at t) process.Post
-  keep-requires-2 c κs =
-      let start = c .before .before .before .before .before .before .before .before .before .before .before .before .before .before .before .before .before .before .before .before .before in
-      (start .pre .1 .1 .1 .1)
+      let start = c .before .before .before .before .before .before .before .before .before .before .before in
+      let q = (ready-room _ _ _ _ _ _ _ _ _ (ready _ _ _ _ _ _ _ _ _ (start .pre .1 .0) (start .pre .1 .1 .0) (start .pre .1 .1 .1 .0))) in ((omega (arith, q .whole), q .small, q .inside), ((q .room, omega (arith, q .asks)), (q .few, (start .pre .1 .1 .1 .1))))
 
   enum-told-3 : lts.Need-enum-told-3 claims (process-at t) process.Post
   enum-told-3 c = search needs
 
-  walk-in-requires-3 : lts.Need-walk-in-requires-3 claims (process-at t) process.Post
-  walk-in-requires-3 c κs = search needs
+  inputs-in-requires : lts.Need-inputs-in-requires claims (process-at t) process.Post
+  inputs-in-requires c κs = search needs
 
   take-input-requires : lts.Need-take-input-requires claims (process-at t) process.Post
   take-input-requires c κs =
-      let start = c .before .before .before .before .before .before .before .before .before .before .before .before .before .before .before in
-      (room-in _ _ (c .walk-in3 .ensures) _ _ _ _ (ready-room _ _ _ _ _ _ _ _ _ (ready _ _ _ _ _ _ _ _ _ (start .pre .1 .0) (start .pre .1 .1 .0) (start .pre .1 .1 .1 .0))))
-
-  keep-requires-3 : lts.Need-keep-requires-3 claims (process-at t) process.Post
-  keep-requires-3 c κs =
-      let start = c .before .before .before .before .before .before .before .before .before .before .before .before .before .before .before .before .before .before .before .before .before in
-      (start .pre .1 .1 .1 .1)
+      let start = c .before .before .before .before .before .before .before .before .before .before .before .before in
+      ((ready-room _ _ _ _ _ _ _ _ _ (ready _ _ _ _ _ _ _ _ _ (start .pre .1 .0) (start .pre .1 .1 .0) (start .pre .1 .1 .1 .0))), (start .pre .1 .1 .1 .1))
 
   enum-told-4 : lts.Need-enum-told-4 claims (process-at t) process.Post
   enum-told-4 c = search needs
@@ -105,7 +83,7 @@ module _ (t : ℕ) where
       let at-form-of = at-enum-told4 .before .before in
       let at-word = at-form-of .before in
       let at-kind-at = at-word .before in
-      let start = at-kind-at .before .before .before .before .before .before .before in
+      let start = at-kind-at .before .before .before .before in
       let b = (before-is (start .args .given .now) (start .args .node) ((start .pre .1 .0) .legal) (start .pre .1 .1 .0) (kindIs (at-kind-at .kind-at .result)) Form.One (at-kind-at .kind-at .ensures) (sym (at-enum-told4 .enum-told4 .given .1) ∙ at-form-of .form-of .ensures ∙ ap (formOf (kindIs (at-kind-at .kind-at .result))) (at-word .word .ensures))) in (omega (arith, start .pre .0), ((start .pre .1 .0), ((start .pre .1 .1 .0), ((start .pre .1 .1 .1 .0), (b, (start .pre .1 .1 .1 .1))))))
 
   enum-told-5 : lts.Need-enum-told-5 claims (process-at t) process.Post
@@ -117,7 +95,7 @@ module _ (t : ℕ) where
       let at-form-of = at-enum-told5 .before .before in
       let at-word = at-form-of .before in
       let at-kind-at = at-word .before in
-      let start = at-kind-at .before .before .before .before .before .before .before in
+      let start = at-kind-at .before .before .before .before in
       let b = (before-is (start .args .given .now) (start .args .node) ((start .pre .1 .0) .legal) (start .pre .1 .1 .0) (kindIs (at-kind-at .kind-at .result)) Form.Two (at-kind-at .kind-at .ensures) (sym (at-enum-told5 .enum-told5 .given .1) ∙ at-form-of .form-of .ensures ∙ ap (formOf (kindIs (at-kind-at .kind-at .result))) (at-word .word .ensures))) in (omega (arith, start .pre .0), ((start .pre .1 .0), ((start .pre .1 .1 .0), ((start .pre .1 .1 .1 .0), (b .0, (b .1, ((at-kind-at .kind-at .ensures), ((sym (at-enum-told5 .enum-told5 .given .1) ∙ at-form-of .form-of .ensures ∙ ap (formOf (kindIs (at-kind-at .kind-at .result))) (at-word .word .ensures)), (start .pre .1 .1 .1 .1)))))))))
 
   enum-told-6 : lts.Need-enum-told-6 claims (process-at t) process.Post
@@ -129,7 +107,7 @@ module _ (t : ℕ) where
       let at-form-of = at-enum-told6 .before .before in
       let at-word = at-form-of .before in
       let at-kind-at = at-word .before in
-      let start = at-kind-at .before .before .before .before .before .before .before in
+      let start = at-kind-at .before .before .before .before in
       let b = (before-is (start .args .given .now) (start .args .node) ((start .pre .1 .0) .legal) (start .pre .1 .1 .0) (kindIs (at-kind-at .kind-at .result)) Form.Three (at-kind-at .kind-at .ensures) (sym (at-enum-told6 .enum-told6 .given .1) ∙ at-form-of .form-of .ensures ∙ ap (formOf (kindIs (at-kind-at .kind-at .result))) (at-word .word .ensures))) in (omega (arith, start .pre .0), ((start .pre .1 .0), ((start .pre .1 .1 .0), ((start .pre .1 .1 .1 .0), (b .0, (b .1, (b .2, (start .pre .1 .1 .1 .1))))))))
 
   enum-told-7 : lts.Need-enum-told-7 claims (process-at t) process.Post
@@ -141,7 +119,7 @@ module _ (t : ℕ) where
       let at-form-of = at-enum-told7 .before .before in
       let at-word = at-form-of .before in
       let at-kind-at = at-word .before in
-      let start = at-kind-at .before .before .before .before .before .before .before in
+      let start = at-kind-at .before .before .before .before in
       let b = (before-is (start .args .given .now) (start .args .node) ((start .pre .1 .0) .legal) (start .pre .1 .1 .0) (kindIs (at-kind-at .kind-at .result)) Form.Choice (at-kind-at .kind-at .ensures) (sym (at-enum-told7 .enum-told7 .given .1) ∙ at-form-of .form-of .ensures ∙ ap (formOf (kindIs (at-kind-at .kind-at .result))) (at-word .word .ensures))) in (omega (arith, start .pre .0), ((start .pre .1 .0), ((start .pre .1 .1 .0), ((start .pre .1 .1 .1 .0), (b .0, (b .1, (b .2, (start .pre .1 .1 .1 .1))))))))
 
   enum-told-8 : lts.Need-enum-told-8 claims (process-at t) process.Post
@@ -153,84 +131,82 @@ module _ (t : ℕ) where
       let at-form-of = at-enum-told8 .before .before in
       let at-word = at-form-of .before in
       let at-kind-at = at-word .before in
-      let start = at-kind-at .before .before .before .before .before .before .before in
+      let start = at-kind-at .before .before .before .before in
       let b = (before-is (start .args .given .now) (start .args .node) ((start .pre .1 .0) .legal) (start .pre .1 .1 .0) (kindIs (at-kind-at .kind-at .result)) Form.Step (at-kind-at .kind-at .ensures) (sym (at-enum-told8 .enum-told8 .given .1) ∙ at-form-of .form-of .ensures ∙ ap (formOf (kindIs (at-kind-at .kind-at .result))) (at-word .word .ensures))) in (omega (arith, start .pre .0), ((start .pre .1 .0), ((start .pre .1 .1 .0), ((start .pre .1 .1 .1 .0), (b .0, (b .1, (start .pre .1 .1 .1 .1)))))))
 
   same-length : lts.Need-same-length claims (process-at t) process.Post
   same-length c =
-      let at-settle-const = c .before .before .before .before .before .before in
+      let at-settle-const = c .before .before .before .before in
       at-settle-const .settle-const .kept .1 .0
 
   same-length-2 : lts.Need-same-length-2 claims (process-at t) process.Post
   same-length-2 c =
-      let at-settle-const = c .before .before .before .before .before .before in
+      let at-settle-const = c .before .before .before .before in
       at-settle-const .settle-const .kept .1 .1 .0
 
   returns : lts.Need-returns claims (process-at t) process.Post
   unfolding byForm
   returns c =
-      let at-settle-const = c .before .before .before .before .before .before in
-      let at-walk-in = at-settle-const .before in
-      let at-enum-told = at-walk-in .before .before .before .before in
+      let at-settle-const = c .before .before .before .before in
+      let at-enum-told = at-settle-const .before .before .before .before in
       let at-form-of = at-enum-told .before .before in
       let at-word = at-form-of .before in
       let at-kind-at = at-word .before in
-      let start = at-kind-at .before .before .before .before .before .before .before in
-      λ h f l. (h, c .keep .ensures h _ _ _ _ _ ∙ at-settle-const .settle-const .ensures h (start .args .inputs .now) (start .args .replies .now) (waysIn (start .args .dumps .now) (start .args .minimise) (start .args .replies .now)) ∙ ap (λ w. constOut (start .args .given .now) (waysIn (start .args .dumps .now) (start .args .minimise) (start .args .replies .now)) (view h (start .args .given .now) (start .args .inputs .now) (start .args .replies .now) (start .args .result .now) (start .args .scratch .now) w) (start .args .node)) (at-walk-in .walk-in .ensures) ∙ process-is (start .args .given .now) (start .args .dumps .now) (start .args .replies .now) (start .args .minimise) f (view h (start .args .given .now) (start .args .inputs .now) (start .args .replies .now) (start .args .result .now) (start .args .scratch .now) (walkIn (start .args .counters .now))) (start .args .node) (kindIs (at-kind-at .kind-at .result)) Form.Constant (at-kind-at .kind-at .ensures) (sym (at-enum-told .enum-told .given .1) ∙ at-form-of .form-of .ensures ∙ ap (formOf (kindIs (at-kind-at .kind-at .result))) (at-word .word .ensures)))
+      let start = at-kind-at .before .before .before .before in
+      λ h f l. (h, at-settle-const .settle-const .ensures h (inputsIn (start .args .given .now) (start .args .call .now)) (repliesIn (start .args .given .now) (start .args .call .now)) (waysBy (start .args .given .now) (start .args .dumps .now) (start .args .call .now)) ∙ process-is (start .args .given .now) (start .args .dumps .now) (repliesIn (start .args .given .now) (start .args .call .now)) (minimiseIn (start .args .call .now)) f (view h (start .args .given .now) (inputsIn (start .args .given .now) (start .args .call .now)) (repliesIn (start .args .given .now) (start .args .call .now)) (start .args .result .now) (start .args .scratch .now) (walkIn (start .args .counters .now))) (start .args .node) (kindIs (at-kind-at .kind-at .result)) Form.Constant (at-kind-at .kind-at .ensures) (sym (at-enum-told .enum-told .given .1) ∙ at-form-of .form-of .ensures ∙ ap (formOf (kindIs (at-kind-at .kind-at .result))) (at-word .word .ensures)))
 
   same-length-3 : lts.Need-same-length-3 claims (process-at t) process.Post
   same-length-3 c =
-      let at-settle = c .before .before .before .before .before .before in
+      let at-settle = c .before .before .before .before in
       at-settle .settle .kept .1 .0
 
   same-length-4 : lts.Need-same-length-4 claims (process-at t) process.Post
   same-length-4 c =
-      let at-settle = c .before .before .before .before .before .before in
+      let at-settle = c .before .before .before .before in
       at-settle .settle .kept .1 .1 .0
 
   returns-2 : lts.Need-returns-2 claims (process-at t) process.Post
   unfolding byForm
   returns-2 c =
-      let at-settle = c .before .before .before .before .before .before in
-      let at-walk-in2 = at-settle .before in
-      let at-enum-told2 = at-walk-in2 .before .before .before .before in
+      let at-settle = c .before .before .before .before in
+      let at-enum-told2 = at-settle .before .before .before .before in
       let at-form-of = at-enum-told2 .before .before in
       let at-word = at-form-of .before in
       let at-kind-at = at-word .before in
-      let start = at-kind-at .before .before .before .before .before .before .before in
-      λ h f l. (h, c .keep2 .ensures h _ _ _ _ _ ∙ at-settle .settle .ensures h (start .args .inputs .now) (start .args .replies .now) (waysIn (start .args .dumps .now) (start .args .minimise) (start .args .replies .now)) ∙ ap (λ w. settle (tableOf (start .args .given .now)) (waysIn (start .args .dumps .now) (start .args .minimise) (start .args .replies .now)) (start .args .node) (view h (start .args .given .now) (start .args .inputs .now) (start .args .replies .now) (start .args .result .now) (start .args .scratch .now) w) stays) (at-walk-in2 .walk-in2 .ensures) ∙ process-is (start .args .given .now) (start .args .dumps .now) (start .args .replies .now) (start .args .minimise) f (view h (start .args .given .now) (start .args .inputs .now) (start .args .replies .now) (start .args .result .now) (start .args .scratch .now) (walkIn (start .args .counters .now))) (start .args .node) (kindIs (at-kind-at .kind-at .result)) Form.Given (at-kind-at .kind-at .ensures) (sym (at-enum-told2 .enum-told2 .given .1) ∙ at-form-of .form-of .ensures ∙ ap (formOf (kindIs (at-kind-at .kind-at .result))) (at-word .word .ensures)))
+      let start = at-kind-at .before .before .before .before in
+      λ h f l. (h, at-settle .settle .ensures h (inputsIn (start .args .given .now) (start .args .call .now)) (repliesIn (start .args .given .now) (start .args .call .now)) (waysBy (start .args .given .now) (start .args .dumps .now) (start .args .call .now)) ∙ process-is (start .args .given .now) (start .args .dumps .now) (repliesIn (start .args .given .now) (start .args .call .now)) (minimiseIn (start .args .call .now)) f (view h (start .args .given .now) (inputsIn (start .args .given .now) (start .args .call .now)) (repliesIn (start .args .given .now) (start .args .call .now)) (start .args .result .now) (start .args .scratch .now) (walkIn (start .args .counters .now))) (start .args .node) (kindIs (at-kind-at .kind-at .result)) Form.Given (at-kind-at .kind-at .ensures) (sym (at-enum-told2 .enum-told2 .given .1) ∙ at-form-of .form-of .ensures ∙ ap (formOf (kindIs (at-kind-at .kind-at .result))) (at-word .word .ensures)))
 
   same-length-5 : lts.Need-same-length-5 claims (process-at t) process.Post
   same-length-5 c =
-      let at-take-input = c .before .before .before .before .before .before in
-      at-take-input .take-input .kept .1 .1 .1 .0
+      let at-take-input = c .before .before .before .before in
+      at-take-input .take-input .kept .1 .1 .0
 
   same-length-6 : lts.Need-same-length-6 claims (process-at t) process.Post
   same-length-6 c =
-      let at-take-input = c .before .before .before .before .before .before in
-      at-take-input .take-input .kept .1 .1 .1 .1 .0
+      let at-take-input = c .before .before .before .before in
+      at-take-input .take-input .kept .1 .1 .1 .0
 
   returns-3 : lts.Need-returns-3 claims (process-at t) process.Post
   unfolding byForm
   returns-3 c =
-      let at-take-input = c .before .before .before .before .before .before in
-      let at-walk-in3 = at-take-input .before in
-      let at-enum-told3 = at-walk-in3 .before .before .before .before in
+      let at-take-input = c .before .before .before .before in
+      let at-inputs-in = at-take-input .before .before .before .before in
+      let at-enum-told3 = at-inputs-in .before in
       let at-form-of = at-enum-told3 .before .before in
       let at-word = at-form-of .before in
       let at-kind-at = at-word .before in
-      let start = at-kind-at .before .before .before .before .before .before .before in
-      λ h f l. let m = at-take-input .take-input .ensures h (start .args .replies .now) (start .args .minimise) in (m .0, c .keep3 .ensures (m .0) _ _ _ _ _ ∙ m .1 ∙ ap (λ w. takeOf (start .args .given .now) (waysIn (start .args .dumps .now) (start .args .minimise) (start .args .replies .now)) (view h (start .args .given .now) (start .args .inputs .now) (start .args .replies .now) (start .args .result .now) (start .args .scratch .now) w) (start .args .node)) (at-walk-in3 .walk-in3 .ensures) ∙ process-is (start .args .given .now) (start .args .dumps .now) (start .args .replies .now) (start .args .minimise) f (view h (start .args .given .now) (start .args .inputs .now) (start .args .replies .now) (start .args .result .now) (start .args .scratch .now) (walkIn (start .args .counters .now))) (start .args .node) (kindIs (at-kind-at .kind-at .result)) Form.Free (at-kind-at .kind-at .ensures) (sym (at-enum-told3 .enum-told3 .given .1) ∙ at-form-of .form-of .ensures ∙ ap (formOf (kindIs (at-kind-at .kind-at .result))) (at-word .word .ensures)))
+      let start = at-kind-at .before .before .before .before in
+      λ h f l. let m = take-by h (start .args .given .now) _ _ (repliesIn (start .args .given .now) (start .args .call .now)) (start .args .result .now) (start .args .scratch .now) (walkIn (start .args .counters .now)) (waysBy (start .args .given .now) (start .args .dumps .now) (start .args .call .now)) (start .args .node) _ _ _ (at-inputs-in .inputs-in .ensures) (at-take-input .take-input .ensures h (repliesIn (start .args .given .now) (start .args .call .now)) (minimiseIn (start .args .call .now))) in (m .0, m .1 ∙ process-is (start .args .given .now) (start .args .dumps .now) (repliesIn (start .args .given .now) (start .args .call .now)) (minimiseIn (start .args .call .now)) f (view h (start .args .given .now) (inputsIn (start .args .given .now) (start .args .call .now)) (repliesIn (start .args .given .now) (start .args .call .now)) (start .args .result .now) (start .args .scratch .now) (walkIn (start .args .counters .now))) (start .args .node) (kindIs (at-kind-at .kind-at .result)) Form.Free (at-kind-at .kind-at .ensures) (sym (at-enum-told3 .enum-told3 .given .1) ∙ at-form-of .form-of .ensures ∙ ap (formOf (kindIs (at-kind-at .kind-at .result))) (at-word .word .ensures)))
 
   same-length-7 : lts.Need-same-length-7 claims (process-at t) process.Post
   same-length-7 c =
       let at-process-one = c .before .before .before .before in
-      at-process-one .process-one .kept .1 .1 .1 .1 .0
+      at-process-one .process-one .kept .1 .0
 
   same-length-8 : lts.Need-same-length-8 claims (process-at t) process.Post
   same-length-8 c =
       let at-process-one = c .before .before .before .before in
-      at-process-one .process-one .kept .1 .1 .1 .1 .1 .0
+      at-process-one .process-one .kept .1 .1 .0
 
   returns-4 : lts.Need-returns-4 claims (process-at t) process.Post
   unfolding byForm
@@ -240,18 +216,18 @@ module _ (t : ℕ) where
       let at-form-of = at-enum-told4 .before .before in
       let at-word = at-form-of .before in
       let at-kind-at = at-word .before in
-      let start = at-kind-at .before .before .before .before .before .before .before in
-      λ h f l. let m = at-process-one .process-one .ensures h f l in (m .0, m .1 ∙ process-is (start .args .given .now) (start .args .dumps .now) (start .args .replies .now) (start .args .minimise) f (view h (start .args .given .now) (start .args .inputs .now) (start .args .replies .now) (start .args .result .now) (start .args .scratch .now) (walkIn (start .args .counters .now))) (start .args .node) (kindIs (at-kind-at .kind-at .result)) Form.One (at-kind-at .kind-at .ensures) (sym (at-enum-told4 .enum-told4 .given .1) ∙ at-form-of .form-of .ensures ∙ ap (formOf (kindIs (at-kind-at .kind-at .result))) (at-word .word .ensures)))
+      let start = at-kind-at .before .before .before .before in
+      λ h f l. let m = at-process-one .process-one .ensures h f l in (m .0, m .1 ∙ process-is (start .args .given .now) (start .args .dumps .now) (repliesIn (start .args .given .now) (start .args .call .now)) (minimiseIn (start .args .call .now)) f (view h (start .args .given .now) (inputsIn (start .args .given .now) (start .args .call .now)) (repliesIn (start .args .given .now) (start .args .call .now)) (start .args .result .now) (start .args .scratch .now) (walkIn (start .args .counters .now))) (start .args .node) (kindIs (at-kind-at .kind-at .result)) Form.One (at-kind-at .kind-at .ensures) (sym (at-enum-told4 .enum-told4 .given .1) ∙ at-form-of .form-of .ensures ∙ ap (formOf (kindIs (at-kind-at .kind-at .result))) (at-word .word .ensures)))
 
   same-length-9 : lts.Need-same-length-9 claims (process-at t) process.Post
   same-length-9 c =
       let at-process-two = c .before .before .before .before in
-      at-process-two .process-two .kept .1 .1 .1 .1 .0
+      at-process-two .process-two .kept .1 .0
 
   same-length-10 : lts.Need-same-length-10 claims (process-at t) process.Post
   same-length-10 c =
       let at-process-two = c .before .before .before .before in
-      at-process-two .process-two .kept .1 .1 .1 .1 .1 .0
+      at-process-two .process-two .kept .1 .1 .0
 
   returns-5 : lts.Need-returns-5 claims (process-at t) process.Post
   unfolding byForm
@@ -261,18 +237,18 @@ module _ (t : ℕ) where
       let at-form-of = at-enum-told5 .before .before in
       let at-word = at-form-of .before in
       let at-kind-at = at-word .before in
-      let start = at-kind-at .before .before .before .before .before .before .before in
-      λ h f l. let m = at-process-two .process-two .ensures h f l in (m .0, m .1 ∙ process-is (start .args .given .now) (start .args .dumps .now) (start .args .replies .now) (start .args .minimise) f (view h (start .args .given .now) (start .args .inputs .now) (start .args .replies .now) (start .args .result .now) (start .args .scratch .now) (walkIn (start .args .counters .now))) (start .args .node) (kindIs (at-kind-at .kind-at .result)) Form.Two (at-kind-at .kind-at .ensures) (sym (at-enum-told5 .enum-told5 .given .1) ∙ at-form-of .form-of .ensures ∙ ap (formOf (kindIs (at-kind-at .kind-at .result))) (at-word .word .ensures)))
+      let start = at-kind-at .before .before .before .before in
+      λ h f l. let m = at-process-two .process-two .ensures h f l in (m .0, m .1 ∙ process-is (start .args .given .now) (start .args .dumps .now) (repliesIn (start .args .given .now) (start .args .call .now)) (minimiseIn (start .args .call .now)) f (view h (start .args .given .now) (inputsIn (start .args .given .now) (start .args .call .now)) (repliesIn (start .args .given .now) (start .args .call .now)) (start .args .result .now) (start .args .scratch .now) (walkIn (start .args .counters .now))) (start .args .node) (kindIs (at-kind-at .kind-at .result)) Form.Two (at-kind-at .kind-at .ensures) (sym (at-enum-told5 .enum-told5 .given .1) ∙ at-form-of .form-of .ensures ∙ ap (formOf (kindIs (at-kind-at .kind-at .result))) (at-word .word .ensures)))
 
   same-length-11 : lts.Need-same-length-11 claims (process-at t) process.Post
   same-length-11 c =
       let at-process-three = c .before .before .before .before in
-      at-process-three .process-three .kept .1 .1 .1 .1 .0
+      at-process-three .process-three .kept .1 .0
 
   same-length-12 : lts.Need-same-length-12 claims (process-at t) process.Post
   same-length-12 c =
       let at-process-three = c .before .before .before .before in
-      at-process-three .process-three .kept .1 .1 .1 .1 .1 .0
+      at-process-three .process-three .kept .1 .1 .0
 
   returns-6 : lts.Need-returns-6 claims (process-at t) process.Post
   unfolding byForm
@@ -282,18 +258,18 @@ module _ (t : ℕ) where
       let at-form-of = at-enum-told6 .before .before in
       let at-word = at-form-of .before in
       let at-kind-at = at-word .before in
-      let start = at-kind-at .before .before .before .before .before .before .before in
-      λ h f l. let m = at-process-three .process-three .ensures h f l in (m .0, m .1 ∙ process-is (start .args .given .now) (start .args .dumps .now) (start .args .replies .now) (start .args .minimise) f (view h (start .args .given .now) (start .args .inputs .now) (start .args .replies .now) (start .args .result .now) (start .args .scratch .now) (walkIn (start .args .counters .now))) (start .args .node) (kindIs (at-kind-at .kind-at .result)) Form.Three (at-kind-at .kind-at .ensures) (sym (at-enum-told6 .enum-told6 .given .1) ∙ at-form-of .form-of .ensures ∙ ap (formOf (kindIs (at-kind-at .kind-at .result))) (at-word .word .ensures)))
+      let start = at-kind-at .before .before .before .before in
+      λ h f l. let m = at-process-three .process-three .ensures h f l in (m .0, m .1 ∙ process-is (start .args .given .now) (start .args .dumps .now) (repliesIn (start .args .given .now) (start .args .call .now)) (minimiseIn (start .args .call .now)) f (view h (start .args .given .now) (inputsIn (start .args .given .now) (start .args .call .now)) (repliesIn (start .args .given .now) (start .args .call .now)) (start .args .result .now) (start .args .scratch .now) (walkIn (start .args .counters .now))) (start .args .node) (kindIs (at-kind-at .kind-at .result)) Form.Three (at-kind-at .kind-at .ensures) (sym (at-enum-told6 .enum-told6 .given .1) ∙ at-form-of .form-of .ensures ∙ ap (formOf (kindIs (at-kind-at .kind-at .result))) (at-word .word .ensures)))
 
   same-length-13 : lts.Need-same-length-13 claims (process-at t) process.Post
   same-length-13 c =
       let at-process-ite = c .before .before .before .before in
-      at-process-ite .process-ite .kept .1 .1 .1 .1 .0
+      at-process-ite .process-ite .kept .1 .0
 
   same-length-14 : lts.Need-same-length-14 claims (process-at t) process.Post
   same-length-14 c =
       let at-process-ite = c .before .before .before .before in
-      at-process-ite .process-ite .kept .1 .1 .1 .1 .1 .0
+      at-process-ite .process-ite .kept .1 .1 .0
 
   returns-7 : lts.Need-returns-7 claims (process-at t) process.Post
   unfolding byForm
@@ -303,18 +279,18 @@ module _ (t : ℕ) where
       let at-form-of = at-enum-told7 .before .before in
       let at-word = at-form-of .before in
       let at-kind-at = at-word .before in
-      let start = at-kind-at .before .before .before .before .before .before .before in
-      λ h f l. let m = at-process-ite .process-ite .ensures h f l in (m .0, m .1 ∙ process-is (start .args .given .now) (start .args .dumps .now) (start .args .replies .now) (start .args .minimise) f (view h (start .args .given .now) (start .args .inputs .now) (start .args .replies .now) (start .args .result .now) (start .args .scratch .now) (walkIn (start .args .counters .now))) (start .args .node) (kindIs (at-kind-at .kind-at .result)) Form.Choice (at-kind-at .kind-at .ensures) (sym (at-enum-told7 .enum-told7 .given .1) ∙ at-form-of .form-of .ensures ∙ ap (formOf (kindIs (at-kind-at .kind-at .result))) (at-word .word .ensures)))
+      let start = at-kind-at .before .before .before .before in
+      λ h f l. let m = at-process-ite .process-ite .ensures h f l in (m .0, m .1 ∙ process-is (start .args .given .now) (start .args .dumps .now) (repliesIn (start .args .given .now) (start .args .call .now)) (minimiseIn (start .args .call .now)) f (view h (start .args .given .now) (inputsIn (start .args .given .now) (start .args .call .now)) (repliesIn (start .args .given .now) (start .args .call .now)) (start .args .result .now) (start .args .scratch .now) (walkIn (start .args .counters .now))) (start .args .node) (kindIs (at-kind-at .kind-at .result)) Form.Choice (at-kind-at .kind-at .ensures) (sym (at-enum-told7 .enum-told7 .given .1) ∙ at-form-of .form-of .ensures ∙ ap (formOf (kindIs (at-kind-at .kind-at .result))) (at-word .word .ensures)))
 
   same-length-15 : lts.Need-same-length-15 claims (process-at t) process.Post
   same-length-15 c =
       let at-process-next = c .before .before .before .before in
-      at-process-next .process-next .kept .1 .1 .1 .1 .0
+      at-process-next .process-next .kept .1 .0
 
   same-length-16 : lts.Need-same-length-16 claims (process-at t) process.Post
   same-length-16 c =
       let at-process-next = c .before .before .before .before in
-      at-process-next .process-next .kept .1 .1 .1 .1 .1 .0
+      at-process-next .process-next .kept .1 .1 .0
 
   returns-8 : lts.Need-returns-8 claims (process-at t) process.Post
   unfolding byForm
@@ -324,8 +300,8 @@ module _ (t : ℕ) where
       let at-form-of = at-enum-told8 .before .before in
       let at-word = at-form-of .before in
       let at-kind-at = at-word .before in
-      let start = at-kind-at .before .before .before .before .before .before .before in
-      λ h f l. let m = at-process-next .process-next .ensures h f l in (m .0, m .1 ∙ process-is (start .args .given .now) (start .args .dumps .now) (start .args .replies .now) (start .args .minimise) f (view h (start .args .given .now) (start .args .inputs .now) (start .args .replies .now) (start .args .result .now) (start .args .scratch .now) (walkIn (start .args .counters .now))) (start .args .node) (kindIs (at-kind-at .kind-at .result)) Form.Step (at-kind-at .kind-at .ensures) (sym (at-enum-told8 .enum-told8 .given .1) ∙ at-form-of .form-of .ensures ∙ ap (formOf (kindIs (at-kind-at .kind-at .result))) (at-word .word .ensures)))
+      let start = at-kind-at .before .before .before .before in
+      λ h f l. let m = at-process-next .process-next .ensures h f l in (m .0, m .1 ∙ process-is (start .args .given .now) (start .args .dumps .now) (repliesIn (start .args .given .now) (start .args .call .now)) (minimiseIn (start .args .call .now)) f (view h (start .args .given .now) (inputsIn (start .args .given .now) (start .args .call .now)) (repliesIn (start .args .given .now) (start .args .call .now)) (start .args .result .now) (start .args .scratch .now) (walkIn (start .args .counters .now))) (start .args .node) (kindIs (at-kind-at .kind-at .result)) Form.Step (at-kind-at .kind-at .ensures) (sym (at-enum-told8 .enum-told8 .given .1) ∙ at-form-of .form-of .ensures ∙ ap (formOf (kindIs (at-kind-at .kind-at .result))) (at-word .word .ensures)))
 
   pub proved : {M : Type 1} → lts.Closed claims (process-at t) process.Post M
-  proved = lts.spec claims (process-at t) process.Post kind-at-requires word-requires form-of-requires enum-told walk-in-requires settle-const-requires keep-requires enum-told-2 walk-in-requires-2 settle-requires keep-requires-2 enum-told-3 walk-in-requires-3 take-input-requires keep-requires-3 enum-told-4 process-one-requires enum-told-5 process-two-requires enum-told-6 process-three-requires enum-told-7 process-ite-requires enum-told-8 process-next-requires same-length same-length-2 returns same-length-3 same-length-4 returns-2 same-length-5 same-length-6 returns-3 same-length-7 same-length-8 returns-4 same-length-9 same-length-10 returns-5 same-length-11 same-length-12 returns-6 same-length-13 same-length-14 returns-7 same-length-15 same-length-16 returns-8
+  proved = lts.spec claims (process-at t) process.Post kind-at-requires word-requires form-of-requires enum-told settle-const-requires enum-told-2 settle-requires enum-told-3 inputs-in-requires take-input-requires enum-told-4 process-one-requires enum-told-5 process-two-requires enum-told-6 process-three-requires enum-told-7 process-ite-requires enum-told-8 process-next-requires same-length same-length-2 returns same-length-3 same-length-4 returns-2 same-length-5 same-length-6 returns-3 same-length-7 same-length-8 returns-4 same-length-9 same-length-10 returns-5 same-length-11 same-length-12 returns-6 same-length-13 same-length-14 returns-7 same-length-15 same-length-16 returns-8

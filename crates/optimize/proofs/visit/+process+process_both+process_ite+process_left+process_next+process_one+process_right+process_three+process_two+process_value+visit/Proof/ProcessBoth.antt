@@ -4,7 +4,7 @@ use mathlib.Core.Path.{sym, _∙_}
 use Prim.Native.Nat.{ℕ}
 use native.Mathlib.Omega.{arith}
 use borrow.Author.Needs.{needs}
-use Rattle.optimize.specs.View.{view, waysIn}
+use Rattle.optimize.specs.View.{view}
 use Rattle.optimize.proofs.Walks.{came-done, both-stop, both-stop-2, both-go}
 use Rattle.optimize.proofs.Keeps.{ready, ready-on, ready-room, room-row}
 use Rattle.optimize.proofs.buffers.operand.Reads as operand-reads
@@ -13,25 +13,24 @@ use Rattle.optimize.proofs.buffers.put_row.Reads as put-row-reads
 use Rattle.optimize.proofs.settle.after_ite.Reads as after-ite-reads
 use Rattle.optimize.proofs.visit.process_both.Reads as process-both
 use Rattle.optimize.proofs.visit.+process+process_both+process_ite+process_left+process_next+process_one+process_right+process_three+process_two+process_value+visit.Lts-process_both as lts
-use Rattle.optimize.proofs.visit.+process+process_both+process_ite+process_left+process_next+process_one+process_right+process_three+process_two+process_value+visit.Proof.Measures.{process-both-at, visit-below}
 use Rattle.optimize.proofs.counters.is_refused.Reads as is-refused-reads
-use Rattle.optimize.proofs.counters.walk_in.Reads as walk-in-reads
-use Rattle.optimize.proofs.counters.keep.Reads as keep-reads
 use Rattle.optimize.specs.Counters.{walkIn}
-use Rattle.optimize.proofs.CounterLaws.{went, stopped, room-in, row-in}
+use Rattle.optimize.proofs.CounterLaws.{went, stopped}
+use Rattle.optimize.specs.CallWords.{inputsIn, repliesIn, waysBy}
+use Rattle.optimize.proofs.visit.+process+process_both+process_ite+process_left+process_next+process_one+process_right+process_three+process_two+process_value+visit.Proof.Measures.{process-both-at, visit-below}
 
 module _ (t : ℕ) where
   abbrev claims : lts.Claims
-  claims = (operand-reads.Asked, operand-reads.Learnt, visit-below t, visit.Post, is-refused-reads.Asked, is-refused-reads.Learnt, put-row-reads.Asked, put-row-reads.Learnt, walk-in-reads.Asked, walk-in-reads.Learnt, after-ite-reads.Asked, after-ite-reads.Learnt, keep-reads.Asked, keep-reads.Learnt)
+  claims = (operand-reads.Asked, operand-reads.Learnt, visit-below t, visit.Post, is-refused-reads.Asked, is-refused-reads.Learnt, put-row-reads.Asked, put-row-reads.Learnt, after-ite-reads.Asked, after-ite-reads.Learnt)
 
   operand-requires : lts.Need-operand-requires claims (process-both-at t) process-both.Post
   operand-requires c κs =
-      let start = c .before .before .before .before .before .before .before .before .before in
+      let start = c .before .before .before .before .before .before in
       omega (arith, (start .pre .1 .0) .whole, (start .pre .1 .1 .0))
 
   visit-requires : lts.Need-visit-requires claims (process-both-at t) process-both.Post
   visit-requires c κs =
-      let start = c .before .before .before .before .before .before .before .before .before .before in
+      let start = c .before .before .before .before .before .before .before in
       (omega (arith, start .pre .0, c .operand .ensures, (start .pre .1 .1 .1 .1 .0)), ((start .pre .1 .0), (omega (arith, c .operand .ensures, (start .pre .1 .1 .1 .1 .0), (start .pre .1 .1 .0)), (start .pre .1 .1 .1 .1 .1 .1))))
 
   is-refused-requires : lts.Need-is-refused-requires claims (process-both-at t) process-both.Post
@@ -40,24 +39,23 @@ module _ (t : ℕ) where
   same-length : lts.Need-same-length claims (process-both-at t) process-both.Post
   same-length c =
       let at-visit = c .before .before .before .before .before .before .before in
-      at-visit .visit .kept .1 .1 .1 .1 .0
+      at-visit .visit .kept .1 .0
 
   same-length-2 : lts.Need-same-length-2 claims (process-both-at t) process-both.Post
   same-length-2 c =
       let at-visit = c .before .before .before .before .before .before .before in
-      at-visit .visit .kept .1 .1 .1 .1 .1 .0
+      at-visit .visit .kept .1 .1 .0
 
   returns : lts.Need-returns claims (process-both-at t) process-both.Post
   returns c =
-      let at-is-refused = c .before in
-      let at-visit = at-is-refused .before .before .before .before .before .before in
+      let at-visit = c .before .before .before .before .before .before .before in
       let at-operand = at-visit .before in
-      let start = at-operand .before .before .before .before .before .before .before .before .before .before in
-      λ h f l. both-stop (start .args .given .now) (start .args .inputs .now) (start .args .replies .now) (waysIn (start .args .dumps .now) (start .args .minimise) (start .args .replies .now)) f (start .args .node) (view h (start .args .given .now) (start .args .inputs .now) (start .args .replies .now) (start .args .result .now) (start .args .scratch .now) (walkIn (start .args .counters .now))) _ _ _ _ _ _ _ (at-visit .visit .ensures h f (omega (arith, at-operand .operand .ensures, (start .pre .1 .1 .1 .1 .0), l))) (stopped _ _ _ (at-is-refused .is-refused .ensures) (c .if1 .taken)) (start .args .x) (at-operand .operand .ensures)
+      let start = at-operand .before .before .before .before .before .before .before in
+      λ h f l. both-stop (start .args .given .now) (inputsIn (start .args .given .now) (start .args .call .now)) (repliesIn (start .args .given .now) (start .args .call .now)) (waysBy (start .args .given .now) (start .args .dumps .now) (start .args .call .now)) f (start .args .node) (view h (start .args .given .now) (inputsIn (start .args .given .now) (start .args .call .now)) (repliesIn (start .args .given .now) (start .args .call .now)) (start .args .result .now) (start .args .scratch .now) (walkIn (start .args .counters .now))) _ _ _ _ _ _ _ (at-visit .visit .ensures h f (omega (arith, at-operand .operand .ensures, (start .pre .1 .1 .1 .1 .0), l))) (stopped _ _ _ (c .before .is-refused .ensures) (c .if1 .taken)) (start .args .x) (at-operand .operand .ensures)
 
   operand-requires-2 : lts.Need-operand-requires-2 claims (process-both-at t) process-both.Post
   operand-requires-2 c κs =
-      let start = c .before .before .before .before .before .before .before .before .before .before .before .before .before .before .before .before .before .before .before .before .before in
+      let start = c .before .before .before .before .before .before .before .before .before .before .before .before .before .before .before .before .before .before in
       omega (arith, (start .pre .1 .0) .whole, (start .pre .1 .1 .0))
 
   visit-requires-2 : lts.Need-visit-requires-2 claims (process-both-at t) process-both.Post
@@ -66,8 +64,8 @@ module _ (t : ℕ) where
       let at-is-refused = at-if1 .before in
       let at-visit = at-is-refused .before .before .before .before .before .before in
       let at-operand = at-visit .before in
-      let start = at-operand .before .before .before .before .before .before .before .before .before .before in
-      (omega (arith, start .pre .0, c .operand2 .ensures, (start .pre .1 .1 .1 .1 .1 .0)), ((ready-on _ _ _ _ _ _ _ _ _ _ _ _ _ _ _ (ready _ _ _ _ _ _ _ _ _ (start .pre .1 .0) (start .pre .1 .1 .0) (start .pre .1 .1 .1 .0)) (omega (arith, at-operand .operand .ensures, (start .pre .1 .1 .1 .1 .0))) (at-visit .visit .ensures) (went _ _ _ (at-is-refused .is-refused .ensures) (at-if1 .if1 .left)) (at-visit .visit .kept .1 .1 .1 .1 .0) (at-visit .visit .kept .1 .1 .1 .1 .1 .0)) .laid, (omega (arith, c .operand2 .ensures, (start .pre .1 .1 .1 .1 .1 .0), (start .pre .1 .1 .0)), (sym (at-is-refused .is-refused .ensures) ∙ at-if1 .if1 .left))))
+      let start = at-operand .before .before .before .before .before .before .before in
+      (omega (arith, start .pre .0, c .operand2 .ensures, (start .pre .1 .1 .1 .1 .1 .0)), ((ready-on _ _ _ _ _ _ _ _ _ _ _ _ _ _ _ (ready _ _ _ _ _ _ _ _ _ (start .pre .1 .0) (start .pre .1 .1 .0) (start .pre .1 .1 .1 .0)) (omega (arith, at-operand .operand .ensures, (start .pre .1 .1 .1 .1 .0))) (at-visit .visit .ensures) (went _ _ _ (at-is-refused .is-refused .ensures) (at-if1 .if1 .left)) (at-visit .visit .kept .1 .0) (at-visit .visit .kept .1 .1 .0)) .laid, (omega (arith, c .operand2 .ensures, (start .pre .1 .1 .1 .1 .1 .0), (start .pre .1 .1 .0)), (sym (at-is-refused .is-refused .ensures) ∙ at-if1 .if1 .left))))
 
   is-refused-requires-2 : lts.Need-is-refused-requires-2 claims (process-both-at t) process-both.Post
   is-refused-requires-2 c κs = search needs
@@ -76,39 +74,35 @@ module _ (t : ℕ) where
   same-length-3 c =
       let at-visit2 = c .before .before .before .before .before .before .before in
       let at-visit = at-visit2 .before .before .before .before .before .before .before .before .before .before .before .before in
-      at-visit2 .visit2 .kept .1 .1 .1 .1 .0 ∙ at-visit .visit .kept .1 .1 .1 .1 .0
+      at-visit2 .visit2 .kept .1 .0 ∙ at-visit .visit .kept .1 .0
 
   same-length-4 : lts.Need-same-length-4 claims (process-both-at t) process-both.Post
   same-length-4 c =
       let at-visit2 = c .before .before .before .before .before .before .before in
       let at-visit = at-visit2 .before .before .before .before .before .before .before .before .before .before .before .before in
-      at-visit2 .visit2 .kept .1 .1 .1 .1 .1 .0 ∙ at-visit .visit .kept .1 .1 .1 .1 .1 .0
+      at-visit2 .visit2 .kept .1 .1 .0 ∙ at-visit .visit .kept .1 .1 .0
 
   returns-2 : lts.Need-returns-2 claims (process-both-at t) process-both.Post
   returns-2 c =
-      let at-is-refused2 = c .before in
-      let at-visit2 = at-is-refused2 .before .before .before .before .before .before in
+      let at-visit2 = c .before .before .before .before .before .before .before in
       let at-operand2 = at-visit2 .before in
       let at-if1 = at-operand2 .before .before .before .before in
       let at-is-refused = at-if1 .before in
       let at-visit = at-is-refused .before .before .before .before .before .before in
       let at-operand = at-visit .before in
-      let start = at-operand .before .before .before .before .before .before .before .before .before .before in
-      λ h f l. let m = at-visit .visit .ensures h f (omega (arith, at-operand .operand .ensures, (start .pre .1 .1 .1 .1 .0), l)) in both-stop-2 (start .args .given .now) (start .args .inputs .now) (start .args .replies .now) (waysIn (start .args .dumps .now) (start .args .minimise) (start .args .replies .now)) f (start .args .node) (view h (start .args .given .now) (start .args .inputs .now) (start .args .replies .now) (start .args .result .now) (start .args .scratch .now) (walkIn (start .args .counters .now))) _ _ _ _ _ _ _ _ (came-done _ _ _ _ _ _ _ m _ _ (went _ _ _ (at-is-refused .is-refused .ensures) (at-if1 .if1 .left))) _ _ (at-visit2 .visit2 .ensures (m .0) f (omega (arith, at-operand2 .operand2 .ensures, (start .pre .1 .1 .1 .1 .1 .0), l))) (stopped _ _ _ (at-is-refused2 .is-refused2 .ensures) (c .if2 .taken)) (start .args .x) (at-operand .operand .ensures) (at-operand2 .operand2 .ensures)
+      let start = at-operand .before .before .before .before .before .before .before in
+      λ h f l. let m = at-visit .visit .ensures h f (omega (arith, at-operand .operand .ensures, (start .pre .1 .1 .1 .1 .0), l)) in both-stop-2 (start .args .given .now) (inputsIn (start .args .given .now) (start .args .call .now)) (repliesIn (start .args .given .now) (start .args .call .now)) (waysBy (start .args .given .now) (start .args .dumps .now) (start .args .call .now)) f (start .args .node) (view h (start .args .given .now) (inputsIn (start .args .given .now) (start .args .call .now)) (repliesIn (start .args .given .now) (start .args .call .now)) (start .args .result .now) (start .args .scratch .now) (walkIn (start .args .counters .now))) _ _ _ _ _ _ _ _ (came-done _ _ _ _ _ _ _ m _ _ (went _ _ _ (at-is-refused .is-refused .ensures) (at-if1 .if1 .left))) _ _ (at-visit2 .visit2 .ensures (m .0) f (omega (arith, at-operand2 .operand2 .ensures, (start .pre .1 .1 .1 .1 .1 .0), l))) (stopped _ _ _ (c .before .is-refused2 .ensures) (c .if2 .taken)) (start .args .x) (at-operand .operand .ensures) (at-operand2 .operand2 .ensures)
 
   put-row-requires : lts.Need-put-row-requires claims (process-both-at t) process-both.Post
   put-row-requires c κs =
       let at-visit2 = c .before .before .before .before .before .before .before .before in
       let at-visit = at-visit2 .before .before .before .before .before .before .before .before .before .before .before .before in
-      let start = at-visit .before .before .before .before .before .before .before .before .before .before .before in
-      (((start .pre .1 .1 .0), (start .pre .1 .0) .small), ((start .pre .1 .0) .whole, omega (arith, (start .pre .1 .0) .room, at-visit .visit .kept .1 .1 .1 .1 .0, at-visit2 .visit2 .kept .1 .1 .1 .1 .0)))
-
-  walk-in-requires : lts.Need-walk-in-requires claims (process-both-at t) process-both.Post
-  walk-in-requires c κs = search needs
+      let start = at-visit .before .before .before .before .before .before .before .before in
+      (((start .pre .1 .1 .0), (start .pre .1 .0) .small), ((start .pre .1 .0) .whole, omega (arith, (start .pre .1 .0) .room, at-visit .visit .kept .1 .0, at-visit2 .visit2 .kept .1 .0)))
 
   after-ite-requires : lts.Need-after-ite-requires claims (process-both-at t) process-both.Post
   after-ite-requires c κs =
-      let at-put-row = c .before .before .before .before .before .before in
+      let at-put-row = c .before .before .before .before .before in
       let at-if2 = at-put-row .before .before in
       let at-is-refused2 = at-if2 .before in
       let at-visit2 = at-is-refused2 .before .before .before .before .before .before in
@@ -117,35 +111,28 @@ module _ (t : ℕ) where
       let at-is-refused = at-if1 .before in
       let at-visit = at-is-refused .before .before .before .before .before .before in
       let at-operand = at-visit .before in
-      let start = at-operand .before .before .before .before .before .before .before .before .before .before in
-      (room-in _ _ (c .walk-in .ensures) _ _ _ _ (room-row _ _ _ _ _ _ (at-put-row .put-row .kept .1 .0) (ready-room _ _ _ _ _ _ _ _ _ (ready-on _ _ _ _ _ _ _ _ _ _ _ _ _ _ _ (ready-on _ _ _ _ _ _ _ _ _ _ _ _ _ _ _ (ready _ _ _ _ _ _ _ _ _ (start .pre .1 .0) (start .pre .1 .1 .0) (start .pre .1 .1 .1 .0)) (omega (arith, at-operand .operand .ensures, (start .pre .1 .1 .1 .1 .0))) (at-visit .visit .ensures) (went _ _ _ (at-is-refused .is-refused .ensures) (at-if1 .if1 .left)) (at-visit .visit .kept .1 .1 .1 .1 .0) (at-visit .visit .kept .1 .1 .1 .1 .1 .0)) (omega (arith, at-operand2 .operand2 .ensures, (start .pre .1 .1 .1 .1 .1 .0))) (at-visit2 .visit2 .ensures) (went _ _ _ (at-is-refused2 .is-refused2 .ensures) (at-if2 .if2 .left)) (at-visit2 .visit2 .kept .1 .1 .1 .1 .0) (at-visit2 .visit2 .kept .1 .1 .1 .1 .1 .0)))))
-
-  keep-requires : lts.Need-keep-requires claims (process-both-at t) process-both.Post
-  keep-requires c κs =
-      let at-if2 = c .before .before .before .before .before .before .before .before .before .before .before .before .before .before in
-      let at-is-refused2 = at-if2 .before in
-      (sym (at-is-refused2 .is-refused2 .ensures) ∙ at-if2 .if2 .left)
+      let start = at-operand .before .before .before .before .before .before .before in
+      ((room-row _ _ _ _ _ _ (at-put-row .put-row .kept .1 .0) (ready-room _ _ _ _ _ _ _ _ _ (ready-on _ _ _ _ _ _ _ _ _ _ _ _ _ _ _ (ready-on _ _ _ _ _ _ _ _ _ _ _ _ _ _ _ (ready _ _ _ _ _ _ _ _ _ (start .pre .1 .0) (start .pre .1 .1 .0) (start .pre .1 .1 .1 .0)) (omega (arith, at-operand .operand .ensures, (start .pre .1 .1 .1 .1 .0))) (at-visit .visit .ensures) (went _ _ _ (at-is-refused .is-refused .ensures) (at-if1 .if1 .left)) (at-visit .visit .kept .1 .0) (at-visit .visit .kept .1 .1 .0)) (omega (arith, at-operand2 .operand2 .ensures, (start .pre .1 .1 .1 .1 .1 .0))) (at-visit2 .visit2 .ensures) (went _ _ _ (at-is-refused2 .is-refused2 .ensures) (at-if2 .if2 .left)) (at-visit2 .visit2 .kept .1 .0) (at-visit2 .visit2 .kept .1 .1 .0)))), (sym (at-is-refused2 .is-refused2 .ensures) ∙ at-if2 .if2 .left))
 
   same-length-5 : lts.Need-same-length-5 claims (process-both-at t) process-both.Post
   same-length-5 c =
-      let at-after-ite = c .before .before .before .before .before .before in
-      let at-put-row = at-after-ite .before .before .before .before .before .before .before in
+      let at-after-ite = c .before .before .before .before in
+      let at-put-row = at-after-ite .before .before .before .before .before .before in
       let at-visit2 = at-put-row .before .before .before .before .before .before .before .before .before in
       let at-visit = at-visit2 .before .before .before .before .before .before .before .before .before .before .before .before in
-      at-after-ite .after-ite .kept .1 .1 .0 ∙ at-put-row .put-row .kept .1 .0 ∙ at-visit2 .visit2 .kept .1 .1 .1 .1 .0 ∙ at-visit .visit .kept .1 .1 .1 .1 .0
+      at-after-ite .after-ite .kept .1 .1 .0 ∙ at-put-row .put-row .kept .1 .0 ∙ at-visit2 .visit2 .kept .1 .0 ∙ at-visit .visit .kept .1 .0
 
   same-length-6 : lts.Need-same-length-6 claims (process-both-at t) process-both.Post
   same-length-6 c =
-      let at-after-ite = c .before .before .before .before .before .before in
-      let at-visit2 = at-after-ite .before .before .before .before .before .before .before .before .before .before .before .before .before .before .before .before in
+      let at-after-ite = c .before .before .before .before in
+      let at-visit2 = at-after-ite .before .before .before .before .before .before .before .before .before .before .before .before .before .before .before in
       let at-visit = at-visit2 .before .before .before .before .before .before .before .before .before .before .before .before in
-      at-after-ite .after-ite .kept .1 .1 .1 .0 ∙ at-visit2 .visit2 .kept .1 .1 .1 .1 .1 .0 ∙ at-visit .visit .kept .1 .1 .1 .1 .1 .0
+      at-after-ite .after-ite .kept .1 .1 .1 .0 ∙ at-visit2 .visit2 .kept .1 .1 .0 ∙ at-visit .visit .kept .1 .1 .0
 
   returns-3 : lts.Need-returns-3 claims (process-both-at t) process-both.Post
   returns-3 c =
-      let at-after-ite = c .before .before .before .before .before .before in
-      let at-walk-in = at-after-ite .before in
-      let at-put-row = at-walk-in .before .before .before .before .before .before in
+      let at-after-ite = c .before .before .before .before in
+      let at-put-row = at-after-ite .before .before .before .before .before .before in
       let at-if2 = at-put-row .before .before in
       let at-is-refused2 = at-if2 .before in
       let at-visit2 = at-is-refused2 .before .before .before .before .before .before in
@@ -154,8 +141,8 @@ module _ (t : ℕ) where
       let at-is-refused = at-if1 .before in
       let at-visit = at-is-refused .before .before .before .before .before .before in
       let at-operand = at-visit .before in
-      let start = at-operand .before .before .before .before .before .before .before .before .before .before in
-      λ h f l. let m = at-visit .visit .ensures h f (omega (arith, at-operand .operand .ensures, (start .pre .1 .1 .1 .1 .0), l)) in let p = at-visit2 .visit2 .ensures (m .0) f (omega (arith, at-operand2 .operand2 .ensures, (start .pre .1 .1 .1 .1 .1 .0), l)) in (p .0, both-go (start .args .given .now) (waysIn (start .args .dumps .now) (start .args .minimise) (start .args .replies .now)) f (start .args .node) (view h (start .args .given .now) (start .args .inputs .now) (start .args .replies .now) (start .args .result .now) (start .args .scratch .now) (walkIn (start .args .counters .now))) _ _ _ (came-done _ _ _ _ _ _ _ m _ _ (went _ _ _ (at-is-refused .is-refused .ensures) (at-if1 .if1 .left))) _ _ _ (came-done _ _ _ _ _ _ _ p _ _ (went _ _ _ (at-is-refused2 .is-refused2 .ensures) (at-if2 .if2 .left))) (start .args .x) _ _ (at-operand .operand .ensures) (at-operand2 .operand2 .ensures) (row-in _ _ (at-walk-in .walk-in .ensures) _ _ _ _ _ _ _ _ _ (at-put-row .put-row .ensures (p .0) _ _ _ (at-walk-in .walk-in .result))) (c .keep .ensures (p .0) _ _ _ _ _ ∙ at-after-ite .after-ite .ensures (p .0) _ (start .args .dumps .now)))
+      let start = at-operand .before .before .before .before .before .before .before in
+      λ h f l. let m = at-visit .visit .ensures h f (omega (arith, at-operand .operand .ensures, (start .pre .1 .1 .1 .1 .0), l)) in let p = at-visit2 .visit2 .ensures (m .0) f (omega (arith, at-operand2 .operand2 .ensures, (start .pre .1 .1 .1 .1 .1 .0), l)) in (p .0, both-go (start .args .given .now) (waysBy (start .args .given .now) (start .args .dumps .now) (start .args .call .now)) f (start .args .node) (view h (start .args .given .now) (inputsIn (start .args .given .now) (start .args .call .now)) (repliesIn (start .args .given .now) (start .args .call .now)) (start .args .result .now) (start .args .scratch .now) (walkIn (start .args .counters .now))) _ _ _ (came-done _ _ _ _ _ _ _ m _ _ (went _ _ _ (at-is-refused .is-refused .ensures) (at-if1 .if1 .left))) _ _ _ (came-done _ _ _ _ _ _ _ p _ _ (went _ _ _ (at-is-refused2 .is-refused2 .ensures) (at-if2 .if2 .left))) (start .args .x) _ _ (at-operand .operand .ensures) (at-operand2 .operand2 .ensures) (at-put-row .put-row .ensures (p .0) _ _ _ _) (at-after-ite .after-ite .ensures (p .0) _ (start .args .dumps .now)))
 
   pub proved : {M : Type 1} → lts.Closed claims (process-both-at t) process-both.Post M
-  proved = lts.spec claims (process-both-at t) process-both.Post operand-requires visit-requires is-refused-requires same-length same-length-2 returns operand-requires-2 visit-requires-2 is-refused-requires-2 same-length-3 same-length-4 returns-2 put-row-requires walk-in-requires after-ite-requires keep-requires same-length-5 same-length-6 returns-3
+  proved = lts.spec claims (process-both-at t) process-both.Post operand-requires visit-requires is-refused-requires same-length same-length-2 returns operand-requires-2 visit-requires-2 is-refused-requires-2 same-length-3 same-length-4 returns-2 put-row-requires after-ite-requires same-length-5 same-length-6 returns-3

@@ -5,7 +5,7 @@ use mathlib.Core.Path.{ap, sym, _∙_}
 use native.Mathlib.Omega.{arith}
 use borrow.Author.Needs.{needs}
 use Rattle.rules.specs.Visit.{left, right, undecided}
-use Rattle.optimize.specs.View.{view, waysIn}
+use Rattle.optimize.specs.View.{view}
 use Rattle.optimize.specs.Process.{choiceIs, chosenOf}
 use Rattle.optimize.proofs.Walks.{came-done, ite-stop, ite-at}
 use Rattle.optimize.proofs.Keeps.{ready, ready-on}
@@ -18,10 +18,11 @@ use Rattle.optimize.proofs.visit.process_left.Reads as process-left
 use Rattle.optimize.proofs.visit.process_right.Reads as process-right
 use Rattle.optimize.proofs.visit.process_ite.Reads as process-ite
 use Rattle.optimize.proofs.visit.+process+process_both+process_ite+process_left+process_next+process_one+process_right+process_three+process_two+process_value+visit.Lts-process_ite as lts
-use Rattle.optimize.proofs.visit.+process+process_both+process_ite+process_left+process_next+process_one+process_right+process_three+process_two+process_value+visit.Proof.Measures.{process-ite-at, visit-below, process-both-below, process-left-below, process-right-below}
 use Rattle.optimize.proofs.counters.is_refused.Reads as is-refused-reads
 use Rattle.optimize.specs.Counters.{walkIn}
 use Rattle.optimize.proofs.CounterLaws.{went, stopped}
+use Rattle.optimize.specs.CallWords.{inputsIn, repliesIn, waysBy}
+use Rattle.optimize.proofs.visit.+process+process_both+process_ite+process_left+process_next+process_one+process_right+process_three+process_two+process_value+visit.Proof.Measures.{process-ite-at, visit-below, process-left-below, process-right-below, process-both-below}
 
 module _ (t : ℕ) where
   abbrev claims : lts.Claims
@@ -29,12 +30,12 @@ module _ (t : ℕ) where
 
   operand-requires : lts.Need-operand-requires claims (process-ite-at t) process-ite.Post
   operand-requires c κs =
-      let start = c .before .before .before .before .before .before .before .before .before in
+      let start = c .before .before .before .before .before .before in
       omega (arith, (start .pre .1 .0) .whole, (start .pre .1 .1 .0))
 
   visit-requires : lts.Need-visit-requires claims (process-ite-at t) process-ite.Post
   visit-requires c κs =
-      let start = c .before .before .before .before .before .before .before .before .before .before in
+      let start = c .before .before .before .before .before .before .before in
       (omega (arith, start .pre .0, c .operand .ensures, (start .pre .1 .1 .1 .1 .0)), ((start .pre .1 .0), (omega (arith, c .operand .ensures, (start .pre .1 .1 .1 .1 .0), (start .pre .1 .1 .0)), (start .pre .1 .1 .1 .1 .1 .1 .1))))
 
   is-refused-requires : lts.Need-is-refused-requires claims (process-ite-at t) process-ite.Post
@@ -43,20 +44,19 @@ module _ (t : ℕ) where
   same-length : lts.Need-same-length claims (process-ite-at t) process-ite.Post
   same-length c =
       let at-visit = c .before .before .before .before .before .before .before in
-      at-visit .visit .kept .1 .1 .1 .1 .0
+      at-visit .visit .kept .1 .0
 
   same-length-2 : lts.Need-same-length-2 claims (process-ite-at t) process-ite.Post
   same-length-2 c =
       let at-visit = c .before .before .before .before .before .before .before in
-      at-visit .visit .kept .1 .1 .1 .1 .1 .0
+      at-visit .visit .kept .1 .1 .0
 
   returns : lts.Need-returns claims (process-ite-at t) process-ite.Post
   returns c =
-      let at-is-refused = c .before in
-      let at-visit = at-is-refused .before .before .before .before .before .before in
+      let at-visit = c .before .before .before .before .before .before .before in
       let at-operand = at-visit .before in
-      let start = at-operand .before .before .before .before .before .before .before .before .before .before in
-      λ h f l. ite-stop (start .args .given .now) (start .args .inputs .now) (start .args .replies .now) (waysIn (start .args .dumps .now) (start .args .minimise) (start .args .replies .now)) f (start .args .node) (view h (start .args .given .now) (start .args .inputs .now) (start .args .replies .now) (start .args .result .now) (start .args .scratch .now) (walkIn (start .args .counters .now))) _ _ _ _ _ _ _ (at-visit .visit .ensures h f (omega (arith, at-operand .operand .ensures, (start .pre .1 .1 .1 .1 .0), l))) (stopped _ _ _ (at-is-refused .is-refused .ensures) (c .if1 .taken)) (at-operand .operand .ensures)
+      let start = at-operand .before .before .before .before .before .before .before in
+      λ h f l. ite-stop (start .args .given .now) (inputsIn (start .args .given .now) (start .args .call .now)) (repliesIn (start .args .given .now) (start .args .call .now)) (waysBy (start .args .given .now) (start .args .dumps .now) (start .args .call .now)) f (start .args .node) (view h (start .args .given .now) (inputsIn (start .args .given .now) (start .args .call .now)) (repliesIn (start .args .given .now) (start .args .call .now)) (start .args .result .now) (start .args .scratch .now) (walkIn (start .args .counters .now))) _ _ _ _ _ _ _ (at-visit .visit .ensures h f (omega (arith, at-operand .operand .ensures, (start .pre .1 .1 .1 .1 .0), l))) (stopped _ _ _ (c .before .is-refused .ensures) (c .if1 .taken)) (at-operand .operand .ensures)
 
   element-copy-out-get-constant : lts.Need-element-copy-out-get-constant claims (process-ite-at t) process-ite.Post
   element-copy-out-get-constant c = search needs
@@ -67,8 +67,8 @@ module _ (t : ℕ) where
       let at-is-refused = at-if1 .before in
       let at-visit = at-is-refused .before .before .before .before .before .before in
       let at-operand = at-visit .before in
-      let start = at-operand .before .before .before .before .before .before .before .before .before .before in
-      let k = (ready-on _ _ _ _ _ _ _ _ _ _ _ _ _ _ _ (ready _ _ _ _ _ _ _ _ _ (start .pre .1 .0) (start .pre .1 .1 .0) (start .pre .1 .1 .1 .0)) (omega (arith, at-operand .operand .ensures, (start .pre .1 .1 .1 .1 .0))) (at-visit .visit .ensures) (went _ _ _ (at-is-refused .is-refused .ensures) (at-if1 .if1 .left)) (at-visit .visit .kept .1 .1 .1 .1 .0) (at-visit .visit .kept .1 .1 .1 .1 .1 .0)) .laid in ((omega (arith, k .whole), k .small), (k .room, omega (arith, k .few)))
+      let start = at-operand .before .before .before .before .before .before .before in
+      let k = (ready-on _ _ _ _ _ _ _ _ _ _ _ _ _ _ _ (ready _ _ _ _ _ _ _ _ _ (start .pre .1 .0) (start .pre .1 .1 .0) (start .pre .1 .1 .1 .0)) (omega (arith, at-operand .operand .ensures, (start .pre .1 .1 .1 .1 .0))) (at-visit .visit .ensures) (went _ _ _ (at-is-refused .is-refused .ensures) (at-if1 .if1 .left)) (at-visit .visit .kept .1 .0) (at-visit .visit .kept .1 .1 .0)) .laid in ((omega (arith, k .whole), k .small), (k .room, omega (arith, k .few)))
 
   choice-of-requires : lts.Need-choice-of-requires claims (process-ite-at t) process-ite.Post
   choice-of-requires c κs = search needs
@@ -82,8 +82,8 @@ module _ (t : ℕ) where
       let at-is-refused = at-if1 .before in
       let at-visit = at-is-refused .before .before .before .before .before .before in
       let at-operand = at-visit .before in
-      let start = at-operand .before .before .before .before .before .before .before .before .before .before in
-      let r = (ready-on _ _ _ _ _ _ _ _ _ _ _ _ _ _ _ (ready _ _ _ _ _ _ _ _ _ (start .pre .1 .0) (start .pre .1 .1 .0) (start .pre .1 .1 .1 .0)) (omega (arith, at-operand .operand .ensures, (start .pre .1 .1 .1 .1 .0))) (at-visit .visit .ensures) (went _ _ _ (at-is-refused .is-refused .ensures) (at-if1 .if1 .left)) (at-visit .visit .kept .1 .1 .1 .1 .0) (at-visit .visit .kept .1 .1 .1 .1 .1 .0)) in (omega (arith, start .pre .0), (r .laid, ((start .pre .1 .1 .0), (r .fresh, ((start .pre .1 .1 .1 .1 .1 .0), (sym (at-is-refused .is-refused .ensures) ∙ at-if1 .if1 .left))))))
+      let start = at-operand .before .before .before .before .before .before .before in
+      let r = (ready-on _ _ _ _ _ _ _ _ _ _ _ _ _ _ _ (ready _ _ _ _ _ _ _ _ _ (start .pre .1 .0) (start .pre .1 .1 .0) (start .pre .1 .1 .1 .0)) (omega (arith, at-operand .operand .ensures, (start .pre .1 .1 .1 .1 .0))) (at-visit .visit .ensures) (went _ _ _ (at-is-refused .is-refused .ensures) (at-if1 .if1 .left)) (at-visit .visit .kept .1 .0) (at-visit .visit .kept .1 .1 .0)) in (omega (arith, start .pre .0), (r .laid, ((start .pre .1 .1 .0), (r .fresh, ((start .pre .1 .1 .1 .1 .1 .0), (sym (at-is-refused .is-refused .ensures) ∙ at-if1 .if1 .left))))))
 
   enum-told-2 : lts.Need-enum-told-2 claims (process-ite-at t) process-ite.Post
   enum-told-2 c = search needs
@@ -94,8 +94,8 @@ module _ (t : ℕ) where
       let at-is-refused = at-if1 .before in
       let at-visit = at-is-refused .before .before .before .before .before .before in
       let at-operand = at-visit .before in
-      let start = at-operand .before .before .before .before .before .before .before .before .before .before in
-      let r = (ready-on _ _ _ _ _ _ _ _ _ _ _ _ _ _ _ (ready _ _ _ _ _ _ _ _ _ (start .pre .1 .0) (start .pre .1 .1 .0) (start .pre .1 .1 .1 .0)) (omega (arith, at-operand .operand .ensures, (start .pre .1 .1 .1 .1 .0))) (at-visit .visit .ensures) (went _ _ _ (at-is-refused .is-refused .ensures) (at-if1 .if1 .left)) (at-visit .visit .kept .1 .1 .1 .1 .0) (at-visit .visit .kept .1 .1 .1 .1 .1 .0)) in (omega (arith, start .pre .0), (r .laid, ((start .pre .1 .1 .0), (r .fresh, ((start .pre .1 .1 .1 .1 .1 .1 .0), (sym (at-is-refused .is-refused .ensures) ∙ at-if1 .if1 .left))))))
+      let start = at-operand .before .before .before .before .before .before .before in
+      let r = (ready-on _ _ _ _ _ _ _ _ _ _ _ _ _ _ _ (ready _ _ _ _ _ _ _ _ _ (start .pre .1 .0) (start .pre .1 .1 .0) (start .pre .1 .1 .1 .0)) (omega (arith, at-operand .operand .ensures, (start .pre .1 .1 .1 .1 .0))) (at-visit .visit .ensures) (went _ _ _ (at-is-refused .is-refused .ensures) (at-if1 .if1 .left)) (at-visit .visit .kept .1 .0) (at-visit .visit .kept .1 .1 .0)) in (omega (arith, start .pre .0), (r .laid, ((start .pre .1 .1 .0), (r .fresh, ((start .pre .1 .1 .1 .1 .1 .1 .0), (sym (at-is-refused .is-refused .ensures) ∙ at-if1 .if1 .left))))))
 
   enum-told-3 : lts.Need-enum-told-3 claims (process-ite-at t) process-ite.Post
   enum-told-3 c = search needs
@@ -106,20 +106,20 @@ module _ (t : ℕ) where
       let at-is-refused = at-if1 .before in
       let at-visit = at-is-refused .before .before .before .before .before .before in
       let at-operand = at-visit .before in
-      let start = at-operand .before .before .before .before .before .before .before .before .before .before in
-      let r = (ready-on _ _ _ _ _ _ _ _ _ _ _ _ _ _ _ (ready _ _ _ _ _ _ _ _ _ (start .pre .1 .0) (start .pre .1 .1 .0) (start .pre .1 .1 .1 .0)) (omega (arith, at-operand .operand .ensures, (start .pre .1 .1 .1 .1 .0))) (at-visit .visit .ensures) (went _ _ _ (at-is-refused .is-refused .ensures) (at-if1 .if1 .left)) (at-visit .visit .kept .1 .1 .1 .1 .0) (at-visit .visit .kept .1 .1 .1 .1 .1 .0)) in (omega (arith, start .pre .0), (r .laid, ((start .pre .1 .1 .0), (r .fresh, ((start .pre .1 .1 .1 .1 .1 .0), ((start .pre .1 .1 .1 .1 .1 .1 .0), (sym (at-is-refused .is-refused .ensures) ∙ at-if1 .if1 .left)))))))
+      let start = at-operand .before .before .before .before .before .before .before in
+      let r = (ready-on _ _ _ _ _ _ _ _ _ _ _ _ _ _ _ (ready _ _ _ _ _ _ _ _ _ (start .pre .1 .0) (start .pre .1 .1 .0) (start .pre .1 .1 .1 .0)) (omega (arith, at-operand .operand .ensures, (start .pre .1 .1 .1 .1 .0))) (at-visit .visit .ensures) (went _ _ _ (at-is-refused .is-refused .ensures) (at-if1 .if1 .left)) (at-visit .visit .kept .1 .0) (at-visit .visit .kept .1 .1 .0)) in (omega (arith, start .pre .0), (r .laid, ((start .pre .1 .1 .0), (r .fresh, ((start .pre .1 .1 .1 .1 .1 .0), ((start .pre .1 .1 .1 .1 .1 .1 .0), (sym (at-is-refused .is-refused .ensures) ∙ at-if1 .if1 .left)))))))
 
   same-length-3 : lts.Need-same-length-3 claims (process-ite-at t) process-ite.Post
   same-length-3 c =
       let at-process-left = c .before .before .before .before in
       let at-visit = at-process-left .before .before .before .before .before .before .before .before .before .before .before .before .before .before .before .before .before in
-      at-process-left .process-left .kept .1 .1 .1 .1 .0 ∙ at-visit .visit .kept .1 .1 .1 .1 .0
+      at-process-left .process-left .kept .1 .0 ∙ at-visit .visit .kept .1 .0
 
   same-length-4 : lts.Need-same-length-4 claims (process-ite-at t) process-ite.Post
   same-length-4 c =
       let at-process-left = c .before .before .before .before in
       let at-visit = at-process-left .before .before .before .before .before .before .before .before .before .before .before .before .before .before .before .before .before in
-      at-process-left .process-left .kept .1 .1 .1 .1 .1 .0 ∙ at-visit .visit .kept .1 .1 .1 .1 .1 .0
+      at-process-left .process-left .kept .1 .1 .0 ∙ at-visit .visit .kept .1 .1 .0
 
   returns-2 : lts.Need-returns-2 claims (process-ite-at t) process-ite.Post
   unfolding chosenOf
@@ -132,20 +132,20 @@ module _ (t : ℕ) where
       let at-is-refused = at-if1 .before in
       let at-visit = at-is-refused .before .before .before .before .before .before in
       let at-operand = at-visit .before in
-      let start = at-operand .before .before .before .before .before .before .before .before .before .before in
-      λ h f l. let m = at-visit .visit .ensures h f (omega (arith, at-operand .operand .ensures, (start .pre .1 .1 .1 .1 .0), l)) in ite-at (start .args .given .now) (start .args .inputs .now) (start .args .replies .now) (waysIn (start .args .dumps .now) (start .args .minimise) (start .args .replies .now)) f (start .args .node) (view h (start .args .given .now) (start .args .inputs .now) (start .args .replies .now) (start .args .result .now) (start .args .scratch .now) (walkIn (start .args .counters .now))) _ _ _ _ _ _ _ _ _ (at-get-constant .get-constant .result) left (came-done _ _ _ _ _ _ _ m _ _ (went _ _ _ (at-is-refused .is-refused .ensures) (at-if1 .if1 .left))) (at-operand .operand .ensures) (at-get-constant .get-constant .ensures) (sym (at-choice-of .choice-of .ensures) ∙ ap choiceIs (at-enum-told .enum-told .given .1)) (at-process-left .process-left .ensures (m .0) f l)
+      let start = at-operand .before .before .before .before .before .before .before in
+      λ h f l. let m = at-visit .visit .ensures h f (omega (arith, at-operand .operand .ensures, (start .pre .1 .1 .1 .1 .0), l)) in ite-at (start .args .given .now) (inputsIn (start .args .given .now) (start .args .call .now)) (repliesIn (start .args .given .now) (start .args .call .now)) (waysBy (start .args .given .now) (start .args .dumps .now) (start .args .call .now)) f (start .args .node) (view h (start .args .given .now) (inputsIn (start .args .given .now) (start .args .call .now)) (repliesIn (start .args .given .now) (start .args .call .now)) (start .args .result .now) (start .args .scratch .now) (walkIn (start .args .counters .now))) _ _ _ _ _ _ _ _ _ (at-get-constant .get-constant .result) left (came-done _ _ _ _ _ _ _ m _ _ (went _ _ _ (at-is-refused .is-refused .ensures) (at-if1 .if1 .left))) (at-operand .operand .ensures) (at-get-constant .get-constant .ensures) (sym (at-choice-of .choice-of .ensures) ∙ ap choiceIs (at-enum-told .enum-told .given .1)) (at-process-left .process-left .ensures (m .0) f l)
 
   same-length-5 : lts.Need-same-length-5 claims (process-ite-at t) process-ite.Post
   same-length-5 c =
       let at-process-right = c .before .before .before .before in
       let at-visit = at-process-right .before .before .before .before .before .before .before .before .before .before .before .before .before .before .before .before .before in
-      at-process-right .process-right .kept .1 .1 .1 .1 .0 ∙ at-visit .visit .kept .1 .1 .1 .1 .0
+      at-process-right .process-right .kept .1 .0 ∙ at-visit .visit .kept .1 .0
 
   same-length-6 : lts.Need-same-length-6 claims (process-ite-at t) process-ite.Post
   same-length-6 c =
       let at-process-right = c .before .before .before .before in
       let at-visit = at-process-right .before .before .before .before .before .before .before .before .before .before .before .before .before .before .before .before .before in
-      at-process-right .process-right .kept .1 .1 .1 .1 .1 .0 ∙ at-visit .visit .kept .1 .1 .1 .1 .1 .0
+      at-process-right .process-right .kept .1 .1 .0 ∙ at-visit .visit .kept .1 .1 .0
 
   returns-3 : lts.Need-returns-3 claims (process-ite-at t) process-ite.Post
   unfolding chosenOf
@@ -158,20 +158,20 @@ module _ (t : ℕ) where
       let at-is-refused = at-if1 .before in
       let at-visit = at-is-refused .before .before .before .before .before .before in
       let at-operand = at-visit .before in
-      let start = at-operand .before .before .before .before .before .before .before .before .before .before in
-      λ h f l. let m = at-visit .visit .ensures h f (omega (arith, at-operand .operand .ensures, (start .pre .1 .1 .1 .1 .0), l)) in ite-at (start .args .given .now) (start .args .inputs .now) (start .args .replies .now) (waysIn (start .args .dumps .now) (start .args .minimise) (start .args .replies .now)) f (start .args .node) (view h (start .args .given .now) (start .args .inputs .now) (start .args .replies .now) (start .args .result .now) (start .args .scratch .now) (walkIn (start .args .counters .now))) _ _ _ _ _ _ _ _ _ (at-get-constant .get-constant .result) right (came-done _ _ _ _ _ _ _ m _ _ (went _ _ _ (at-is-refused .is-refused .ensures) (at-if1 .if1 .left))) (at-operand .operand .ensures) (at-get-constant .get-constant .ensures) (sym (at-choice-of .choice-of .ensures) ∙ ap choiceIs (at-enum-told2 .enum-told2 .given .1)) (at-process-right .process-right .ensures (m .0) f l)
+      let start = at-operand .before .before .before .before .before .before .before in
+      λ h f l. let m = at-visit .visit .ensures h f (omega (arith, at-operand .operand .ensures, (start .pre .1 .1 .1 .1 .0), l)) in ite-at (start .args .given .now) (inputsIn (start .args .given .now) (start .args .call .now)) (repliesIn (start .args .given .now) (start .args .call .now)) (waysBy (start .args .given .now) (start .args .dumps .now) (start .args .call .now)) f (start .args .node) (view h (start .args .given .now) (inputsIn (start .args .given .now) (start .args .call .now)) (repliesIn (start .args .given .now) (start .args .call .now)) (start .args .result .now) (start .args .scratch .now) (walkIn (start .args .counters .now))) _ _ _ _ _ _ _ _ _ (at-get-constant .get-constant .result) right (came-done _ _ _ _ _ _ _ m _ _ (went _ _ _ (at-is-refused .is-refused .ensures) (at-if1 .if1 .left))) (at-operand .operand .ensures) (at-get-constant .get-constant .ensures) (sym (at-choice-of .choice-of .ensures) ∙ ap choiceIs (at-enum-told2 .enum-told2 .given .1)) (at-process-right .process-right .ensures (m .0) f l)
 
   same-length-7 : lts.Need-same-length-7 claims (process-ite-at t) process-ite.Post
   same-length-7 c =
       let at-process-both = c .before .before .before .before in
       let at-visit = at-process-both .before .before .before .before .before .before .before .before .before .before .before .before .before .before .before .before .before in
-      at-process-both .process-both .kept .1 .1 .1 .1 .0 ∙ at-visit .visit .kept .1 .1 .1 .1 .0
+      at-process-both .process-both .kept .1 .0 ∙ at-visit .visit .kept .1 .0
 
   same-length-8 : lts.Need-same-length-8 claims (process-ite-at t) process-ite.Post
   same-length-8 c =
       let at-process-both = c .before .before .before .before in
       let at-visit = at-process-both .before .before .before .before .before .before .before .before .before .before .before .before .before .before .before .before .before in
-      at-process-both .process-both .kept .1 .1 .1 .1 .1 .0 ∙ at-visit .visit .kept .1 .1 .1 .1 .1 .0
+      at-process-both .process-both .kept .1 .1 .0 ∙ at-visit .visit .kept .1 .1 .0
 
   returns-4 : lts.Need-returns-4 claims (process-ite-at t) process-ite.Post
   unfolding chosenOf
@@ -184,8 +184,8 @@ module _ (t : ℕ) where
       let at-is-refused = at-if1 .before in
       let at-visit = at-is-refused .before .before .before .before .before .before in
       let at-operand = at-visit .before in
-      let start = at-operand .before .before .before .before .before .before .before .before .before .before in
-      λ h f l. let m = at-visit .visit .ensures h f (omega (arith, at-operand .operand .ensures, (start .pre .1 .1 .1 .1 .0), l)) in ite-at (start .args .given .now) (start .args .inputs .now) (start .args .replies .now) (waysIn (start .args .dumps .now) (start .args .minimise) (start .args .replies .now)) f (start .args .node) (view h (start .args .given .now) (start .args .inputs .now) (start .args .replies .now) (start .args .result .now) (start .args .scratch .now) (walkIn (start .args .counters .now))) _ _ _ _ _ _ _ _ _ (at-get-constant .get-constant .result) undecided (came-done _ _ _ _ _ _ _ m _ _ (went _ _ _ (at-is-refused .is-refused .ensures) (at-if1 .if1 .left))) (at-operand .operand .ensures) (at-get-constant .get-constant .ensures) (sym (at-choice-of .choice-of .ensures) ∙ ap choiceIs (at-enum-told3 .enum-told3 .given .1)) (at-process-both .process-both .ensures (m .0) f l)
+      let start = at-operand .before .before .before .before .before .before .before in
+      λ h f l. let m = at-visit .visit .ensures h f (omega (arith, at-operand .operand .ensures, (start .pre .1 .1 .1 .1 .0), l)) in ite-at (start .args .given .now) (inputsIn (start .args .given .now) (start .args .call .now)) (repliesIn (start .args .given .now) (start .args .call .now)) (waysBy (start .args .given .now) (start .args .dumps .now) (start .args .call .now)) f (start .args .node) (view h (start .args .given .now) (inputsIn (start .args .given .now) (start .args .call .now)) (repliesIn (start .args .given .now) (start .args .call .now)) (start .args .result .now) (start .args .scratch .now) (walkIn (start .args .counters .now))) _ _ _ _ _ _ _ _ _ (at-get-constant .get-constant .result) undecided (came-done _ _ _ _ _ _ _ m _ _ (went _ _ _ (at-is-refused .is-refused .ensures) (at-if1 .if1 .left))) (at-operand .operand .ensures) (at-get-constant .get-constant .ensures) (sym (at-choice-of .choice-of .ensures) ∙ ap choiceIs (at-enum-told3 .enum-told3 .given .1)) (at-process-both .process-both .ensures (m .0) f l)
 
   pub proved : {M : Type 1} → lts.Closed claims (process-ite-at t) process-ite.Post M
   proved = lts.spec claims (process-ite-at t) process-ite.Post operand-requires visit-requires is-refused-requires same-length same-length-2 returns element-copy-out-get-constant get-constant-requires choice-of-requires enum-told process-left-requires enum-told-2 process-right-requires enum-told-3 process-both-requires same-length-3 same-length-4 returns-2 same-length-5 same-length-6 returns-3 same-length-7 same-length-8 returns-4

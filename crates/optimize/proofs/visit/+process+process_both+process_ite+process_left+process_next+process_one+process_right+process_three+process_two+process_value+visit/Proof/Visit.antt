@@ -5,7 +5,7 @@ use mathlib.Core.Bool.{false}
 use mathlib.Core.Path.{refl, sym}
 use native.Mathlib.Omega.{arith}
 use borrow.Author.Needs.{needs}
-use Rattle.optimize.specs.View.{view, waysIn, Meets}
+use Rattle.optimize.specs.View.{view, Meets}
 use Rattle.optimize.specs.Process.{visitOf}
 use Rattle.optimize.proofs.Walks.{deep, mark-0, again-fresh, again-kept, again-replaced}
 use Rattle.optimize.proofs.visit.process.Reads as process
@@ -13,9 +13,10 @@ use Rattle.optimize.proofs.buffers.node_count.Reads as node-count-reads
 use Rattle.optimize.proofs.buffers.number.Reads as number-reads
 use Rattle.optimize.proofs.visit.visit.Reads as visit
 use Rattle.optimize.proofs.visit.+process+process_both+process_ite+process_left+process_next+process_one+process_right+process_three+process_two+process_value+visit.Lts-visit as lts
-use Rattle.optimize.proofs.visit.+process+process_both+process_ite+process_left+process_next+process_one+process_right+process_three+process_two+process_value+visit.Proof.Measures.{visit-at, process-below}
 use Rattle.optimize.specs.Counters.{walkIn}
 use Rattle.optimize.proofs.CounterLaws.{went, met}
+use Rattle.optimize.specs.CallWords.{inputsIn, repliesIn, waysBy}
+use Rattle.optimize.proofs.visit.+process+process_both+process_ite+process_left+process_next+process_one+process_right+process_three+process_two+process_value+visit.Proof.Measures.{visit-at, process-below}
 
 module _ (t : ℕ) where
   abbrev claims : lts.Claims
@@ -23,62 +24,61 @@ module _ (t : ℕ) where
 
   mul-mark : lts.Need-mul-mark claims (visit-at t) visit.Post
   mul-mark c =
-      let start = c .before .before .before .before .before .before in
+      let start = c .before .before .before in
       omega (arith, (start .pre .1 .0) .asks, (start .pre .1 .1 .0))
 
   slice-read-mark : lts.Need-slice-read-mark claims (visit-at t) visit.Post
   slice-read-mark c =
-      let start = c .before .before .before .before .before .before .before in
+      let start = c .before .before .before .before in
       omega (arith, (start .pre .1 .0) .asks, (start .pre .1 .1 .0))
 
   process-requires : lts.Need-process-requires claims (visit-at t) visit.Post
   process-requires c κs =
       let at-if1 = c .before .before .before in
-      let start = at-if1 .before .before .before .before .before .before .before .before in
+      let start = at-if1 .before .before .before .before .before in
       (omega (arith, start .pre .0), ((start .pre .1 .0), ((start .pre .1 .1 .0), (mark-0 _ _ _ (start .pre .1 .1 .0) (at-if1 .if1 .taken), (start .pre .1 .1 .1)))))
 
   same-length : lts.Need-same-length claims (visit-at t) visit.Post
   same-length c =
       let at-process = c .before .before .before .before in
-      at-process .process .kept .1 .1 .1 .1 .0
+      at-process .process .kept .1 .0
 
   same-length-2 : lts.Need-same-length-2 claims (visit-at t) visit.Post
   same-length-2 c =
       let at-process = c .before .before .before .before in
-      at-process .process .kept .1 .1 .1 .1 .1 .0
+      at-process .process .kept .1 .1 .0
 
   returns : lts.Need-returns claims (visit-at t) visit.Post
   returns c =
       let at-process = c .before .before .before .before in
       let at-if1 = at-process .before .before .before .before in
-      let start = at-if1 .before .before .before .before .before .before .before .before in
-      λ h. deep (λ f. Meets (start .args .given .now) (start .args .inputs .now) (start .args .replies .now) _ _ _ (visitOf (start .args .given .now) (waysIn (start .args .dumps .now) (start .args .minimise) (start .args .replies .now)) f (view h (start .args .given .now) (start .args .inputs .now) (start .args .replies .now) (start .args .result .now) (start .args .scratch .now) (walkIn (start .args .counters .now))) (start .args .node))) (start .args .node) (λ f l. again-fresh (start .args .given .now) (start .args .inputs .now) (start .args .replies .now) (start .args .result .now) (start .args .scratch .now) (walkIn (start .args .counters .now)) (waysIn (start .args .dumps .now) (start .args .minimise) (start .args .replies .now)) f h (start .args .node) (start .pre .1 .1 .0) _ _ _ (at-if1 .if1 .taken) (at-process .process .ensures h f l))
+      let start = at-if1 .before .before .before .before .before in
+      λ h. deep (λ f. Meets (start .args .given .now) (inputsIn (start .args .given .now) (start .args .call .now)) (repliesIn (start .args .given .now) (start .args .call .now)) _ _ _ (visitOf (start .args .given .now) (waysBy (start .args .given .now) (start .args .dumps .now) (start .args .call .now)) f (view h (start .args .given .now) (inputsIn (start .args .given .now) (start .args .call .now)) (repliesIn (start .args .given .now) (start .args .call .now)) (start .args .result .now) (start .args .scratch .now) (walkIn (start .args .counters .now))) (start .args .node))) (start .args .node) (λ f l. again-fresh (start .args .given .now) (inputsIn (start .args .given .now) (start .args .call .now)) (repliesIn (start .args .given .now) (start .args .call .now)) (start .args .result .now) (start .args .scratch .now) (walkIn (start .args .counters .now)) (waysBy (start .args .given .now) (start .args .dumps .now) (start .args .call .now)) f h (start .args .node) (start .pre .1 .1 .0) _ _ _ (at-if1 .if1 .taken) (at-process .process .ensures h f l))
 
   returns-2 : lts.Need-returns-2 claims (visit-at t) visit.Post
   returns-2 c =
-      let start = c .before .before .before .before .before .before .before .before .before in
-      λ h. deep (λ f. Meets (start .args .given .now) (start .args .inputs .now) (start .args .replies .now) _ _ _ (visitOf (start .args .given .now) (waysIn (start .args .dumps .now) (start .args .minimise) (start .args .replies .now)) f (view h (start .args .given .now) (start .args .inputs .now) (start .args .replies .now) (start .args .result .now) (start .args .scratch .now) (walkIn (start .args .counters .now))) (start .args .node))) (start .args .node) (λ f l. met (start .args .given .now) (start .args .inputs .now) (start .args .replies .now) _ _ _ _ _ _ (went false _ _ (sym (start .pre .1 .1 .1)) refl) (again-kept (start .args .given .now) (start .args .inputs .now) (start .args .replies .now) (start .args .result .now) (start .args .scratch .now) (walkIn (start .args .counters .now)) (waysIn (start .args .dumps .now) (start .args .minimise) (start .args .replies .now)) f h (start .args .node) (start .pre .1 .1 .0) (c .if2 .taken)))
+      let start = c .before .before .before .before .before .before in
+      λ h. deep (λ f. Meets (start .args .given .now) (inputsIn (start .args .given .now) (start .args .call .now)) (repliesIn (start .args .given .now) (start .args .call .now)) _ _ _ (visitOf (start .args .given .now) (waysBy (start .args .given .now) (start .args .dumps .now) (start .args .call .now)) f (view h (start .args .given .now) (inputsIn (start .args .given .now) (start .args .call .now)) (repliesIn (start .args .given .now) (start .args .call .now)) (start .args .result .now) (start .args .scratch .now) (walkIn (start .args .counters .now))) (start .args .node))) (start .args .node) (λ f l. met (start .args .given .now) (inputsIn (start .args .given .now) (start .args .call .now)) (repliesIn (start .args .given .now) (start .args .call .now)) _ _ _ _ _ _ (went false _ _ (sym (start .pre .1 .1 .1)) refl) (again-kept (start .args .given .now) (inputsIn (start .args .given .now) (start .args .call .now)) (repliesIn (start .args .given .now) (start .args .call .now)) (start .args .result .now) (start .args .scratch .now) (walkIn (start .args .counters .now)) (waysBy (start .args .given .now) (start .args .dumps .now) (start .args .call .now)) f h (start .args .node) (start .pre .1 .1 .0) (c .if2 .taken)))
 
   node-count-requires : lts.Need-node-count-requires claims (visit-at t) visit.Post
   node-count-requires c κs =
-      let start = c .before .before .before .before .before .before .before .before .before in
+      let start = c .before .before .before .before .before .before in
       omega (arith, (start .pre .1 .0) .whole)
 
   add-number : lts.Need-add-number claims (visit-at t) visit.Post
   add-number c =
-      let start = c .before .before .before .before .before .before .before .before .before .before in
+      let start = c .before .before .before .before .before .before .before in
       omega (arith, (start .pre .1 .0) .asks, (start .pre .1 .0) .small, (start .pre .1 .1 .0), c .node-count .ensures)
 
   mul-number : lts.Need-mul-number claims (visit-at t) visit.Post
   mul-number c =
-      let start = c .before .before .before .before .before .before .before .before .before .before in
+      let start = c .before .before .before .before .before .before .before in
       omega (arith, (start .pre .1 .0) .asks, (start .pre .1 .0) .small, (start .pre .1 .1 .0), c .node-count .ensures)
 
   slice-read-number : lts.Need-slice-read-number claims (visit-at t) visit.Post
   slice-read-number c =
-      let at-node-count = c .before in
-      let start = at-node-count .before .before .before .before .before .before .before .before .before .before in
-      omega (arith, (start .pre .1 .0) .asks, (start .pre .1 .0) .small, (start .pre .1 .1 .0), at-node-count .node-count .ensures)
+      let start = c .before .before .before .before .before .before .before .before in
+      omega (arith, (start .pre .1 .0) .asks, (start .pre .1 .0) .small, (start .pre .1 .1 .0), c .before .node-count .ensures)
 
   number-requires : lts.Need-number-requires claims (visit-at t) visit.Post
   number-requires c κs = search needs
@@ -88,8 +88,8 @@ module _ (t : ℕ) where
       let at-node-count = c .before .before in
       let at-if2 = at-node-count .before in
       let at-if1 = at-if2 .before in
-      let start = at-if1 .before .before .before .before .before .before .before .before in
-      λ h. deep (λ f. Meets (start .args .given .now) (start .args .inputs .now) (start .args .replies .now) _ _ _ (visitOf (start .args .given .now) (waysIn (start .args .dumps .now) (start .args .minimise) (start .args .replies .now)) f (view h (start .args .given .now) (start .args .inputs .now) (start .args .replies .now) (start .args .result .now) (start .args .scratch .now) (walkIn (start .args .counters .now))) (start .args .node))) (start .args .node) (λ f l. met (start .args .given .now) (start .args .inputs .now) (start .args .replies .now) _ _ _ _ _ _ (went false _ _ (sym (start .pre .1 .1 .1)) refl) (again-replaced (start .args .given .now) (start .args .inputs .now) (start .args .replies .now) (start .args .result .now) (start .args .scratch .now) (walkIn (start .args .counters .now)) (waysIn (start .args .dumps .now) (start .args .minimise) (start .args .replies .now)) f h (start .args .node) (start .pre .1 .1 .0) _ _ (at-node-count .node-count .ensures) (c .number .ensures) (at-if1 .if1 .left) (at-if2 .if2 .left)))
+      let start = at-if1 .before .before .before .before .before in
+      λ h. deep (λ f. Meets (start .args .given .now) (inputsIn (start .args .given .now) (start .args .call .now)) (repliesIn (start .args .given .now) (start .args .call .now)) _ _ _ (visitOf (start .args .given .now) (waysBy (start .args .given .now) (start .args .dumps .now) (start .args .call .now)) f (view h (start .args .given .now) (inputsIn (start .args .given .now) (start .args .call .now)) (repliesIn (start .args .given .now) (start .args .call .now)) (start .args .result .now) (start .args .scratch .now) (walkIn (start .args .counters .now))) (start .args .node))) (start .args .node) (λ f l. met (start .args .given .now) (inputsIn (start .args .given .now) (start .args .call .now)) (repliesIn (start .args .given .now) (start .args .call .now)) _ _ _ _ _ _ (went false _ _ (sym (start .pre .1 .1 .1)) refl) (again-replaced (start .args .given .now) (inputsIn (start .args .given .now) (start .args .call .now)) (repliesIn (start .args .given .now) (start .args .call .now)) (start .args .result .now) (start .args .scratch .now) (walkIn (start .args .counters .now)) (waysBy (start .args .given .now) (start .args .dumps .now) (start .args .call .now)) f h (start .args .node) (start .pre .1 .1 .0) _ _ (at-node-count .node-count .ensures) (c .number .ensures) (at-if1 .if1 .left) (at-if2 .if2 .left)))
 
   pub proved : {M : Type 1} → lts.Closed claims (visit-at t) visit.Post M
   proved = lts.spec claims (visit-at t) visit.Post mul-mark slice-read-mark process-requires same-length same-length-2 returns returns-2 node-count-requires add-number mul-number slice-read-number number-requires returns-3

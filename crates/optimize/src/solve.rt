@@ -1,0 +1,104 @@
+// Under minimise: the questions about a node that stays, and what is recorded of it then; solve_boolean_binary, solve_ite_bit and
+// solve_ite_word of optimize.rs.
+use crate::fold::Folded;
+use crate::settle::settle_solved;
+use crate::smt_solver::ask_bit;
+use crate::smt_solver::ask_or;
+use crate::smt_solver::then_ask;
+ghost use Prim.Native.Nat.{ℕ};
+ghost use mathlib.Core.Path.{_≡_};
+ghost use mathlib.Core.List.{List};
+ghost use lib.ListN.{length};
+ghost use Rattle.rules.specs.Walk.{Held};
+ghost use Rattle.rules.specs.Fold.{swap};
+ghost use Rattle.rules.specs.Questions.{askOr, askBit, quiet};
+ghost use Rattle.rules.specs.Visit.{Ways};
+ghost use Rattle.optimize.specs.View.{countOf, view, outcomeOf};
+ghost use Rattle.optimize.specs.Process.{thenAsk, settleThen};
+ghost use Rattle.optimize.specs.Laid.{Room};
+ghost use Rattle.optimize.specs.Counters.{walkIn, Going, answerIn};
+
+// A node that is asked about as a bit: whether it is always true, then whether it is always false.
+pub(crate) fn solve_boolean_binary(
+    given: &[u64],
+    replies: &[u64],
+    result: &mut [u64],
+    scratch: &mut [u64],
+    counters: &mut [usize; 9],
+    node: usize,
+) -> usize
+    requires { ⌜ Room (now given) (now result) (now scratch) (walkIn (now counters)) node ⌝ }
+    requires { ⌜ Going (now counters) ⌝ }
+    ensures { λ r. ⌜ ((h : List Held) (inputs : List ℕ) (ways : Ways) → outcomeOf h (now (given .entry)) inputs (now (replies .entry)) (answerIn r (now (counters .exit))) (now (result .exit)) (now (scratch .exit)) ≡ settleThen (now (given .entry)) ways node (askBit (length (now (replies .entry))) (countOf (now (given .entry))) node quiet (view h (now (given .entry)) inputs (now (replies .entry)) (now (result .entry)) (now (scratch .entry)) (walkIn (now (counters .entry)))))) ⌝ }
+{
+    let solved = ask_bit(given, replies, scratch, counters, node);
+    settle_solved(given, result, scratch, counters, node, solved)
+}
+
+// An Ite of sort 1: as a bit, then whether it equals its condition `x`.
+pub(crate) fn solve_ite_bit(
+    given: &[u64],
+    replies: &[u64],
+    result: &mut [u64],
+    scratch: &mut [u64],
+    counters: &mut [usize; 9],
+    node: usize,
+    x: usize,
+) -> usize
+    requires { ⌜ Room (now given) (now result) (now scratch) (walkIn (now counters)) node ⌝ }
+    requires { ⌜ Going (now counters) ⌝ }
+    ensures { λ r. ⌜ ((h : List Held) (inputs : List ℕ) (ways : Ways) → outcomeOf h (now (given .entry)) inputs (now (replies .entry)) (answerIn r (now (counters .exit))) (now (result .exit)) (now (scratch .exit)) ≡ settleThen (now (given .entry)) ways node (thenAsk (length (now (replies .entry))) 3 node x (swap x) (askBit (length (now (replies .entry))) (countOf (now (given .entry))) node quiet (view h (now (given .entry)) inputs (now (replies .entry)) (now (result .entry)) (now (scratch .entry)) (walkIn (now (counters .entry))))))) ⌝ }
+{
+    let bit = ask_bit(given, replies, scratch, counters, node);
+    let solved = then_ask(
+        given,
+        replies,
+        scratch,
+        counters,
+        bit,
+        3,
+        node,
+        x,
+        Folded::Swap(x),
+    );
+    settle_solved(given, result, scratch, counters, node, solved)
+}
+
+// An Ite of sort 2: whether it equals its left branch `y`, then its right branch `z`.
+pub(crate) fn solve_ite_word(
+    given: &[u64],
+    replies: &[u64],
+    result: &mut [u64],
+    scratch: &mut [u64],
+    counters: &mut [usize; 9],
+    node: usize,
+    y: usize,
+    z: usize,
+) -> usize
+    requires { ⌜ Room (now given) (now result) (now scratch) (walkIn (now counters)) node ⌝ }
+    requires { ⌜ Going (now counters) ⌝ }
+    ensures { λ r. ⌜ ((h : List Held) (inputs : List ℕ) (ways : Ways) → outcomeOf h (now (given .entry)) inputs (now (replies .entry)) (answerIn r (now (counters .exit))) (now (result .exit)) (now (scratch .exit)) ≡ settleThen (now (given .entry)) ways node (thenAsk (length (now (replies .entry))) 3 node z (swap z) (askOr (length (now (replies .entry))) 3 node y (swap y) quiet (view h (now (given .entry)) inputs (now (replies .entry)) (now (result .entry)) (now (scratch .entry)) (walkIn (now (counters .entry))))))) ⌝ }
+{
+    let left = ask_or(
+        given,
+        replies,
+        scratch,
+        counters,
+        3,
+        node,
+        y,
+        Folded::Swap(y),
+    );
+    let solved = then_ask(
+        given,
+        replies,
+        scratch,
+        counters,
+        left,
+        3,
+        node,
+        z,
+        Folded::Swap(z),
+    );
+    settle_solved(given, result, scratch, counters, node, solved)
+}
