@@ -26,7 +26,7 @@ use Rattle.optimize.specs.Laid.{Laid}
 use Rattle.optimize.specs.Ending.{KindsKept, Ended}
 use Rattle.optimize.proofs.Views.{same-or, rows-put, row-below}
 use Rattle.optimize.proofs.Steps.{table-length}
-use Rattle.optimize.proofs.Walks.{node-at}
+use Rattle.optimize.proofs.Keeps.{row-kept}
 
 -- ---- counters
 module _ (h : List Held) (g inputs replies R S : List ℕ) (w : Walk) where
@@ -118,9 +118,4 @@ module _ (g inputs R Q S : List ℕ) (w x : Walk) (k : Kept) (z : Sizes) (fine :
 
 -- ---- the walk keeps the kinds
 pub kinds-kept : (g dumps inputs replies : List ℕ) (minimise : Bool) (R S : List ℕ) (w : Walk) → Laid g dumps inputs replies minimise R S w → KindsKept g R
-unfolding view
-kinds-kept g dumps inputs replies minimise R S w laid v l =
-    let inside : v < length (tableOf g) = omega (arith, table-length g) in
-    ap (λ (nd : Node). nd .kind) (sym (row-below (countOf g) (w .made) R v l))
-    ∙ laid .fine .shape .alike v inside .kind
-    ∙ ap (λ (nd : Node). nd .kind) (node-at g v l)
+kinds-kept g dumps inputs replies minimise R S w laid v l = row-kept g dumps inputs replies minimise R S w laid v l .kind

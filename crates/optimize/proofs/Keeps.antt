@@ -20,13 +20,13 @@ use Rattle.rules.proofs.Structure.{visit-went}
 use Rattle.optimize.specs.declared.walk.Walk.{Walk}
 use Rattle.optimize.specs.declared.walk.Visited as Answer
 use Rattle.optimize.specs.declared.form.Form.{Form}
-use Rattle.optimize.specs.View.{countOf, wordOf, nodeOf, tableOf, waysIn, rowsOf, markOf, questionOf, view}
+use Rattle.optimize.specs.View.{countOf, wordOf, nodeOf, Kept, tableOf, waysIn, rowsOf, markOf, questionOf, view}
 use Rattle.optimize.specs.Folding.{Falls}
 use Rattle.optimize.specs.Process.{visitOf, formOf}
 use Rattle.optimize.specs.Laid.{Laid, Room, Visits}
-use Rattle.optimize.proofs.Views.{split, firsts-length}
+use Rattle.optimize.proofs.Views.{split, firsts-length, row-below}
 use Rattle.optimize.proofs.Steps.{table-length}
-use Rattle.optimize.proofs.Walks.{came-done}
+use Rattle.optimize.proofs.Walks.{came-done, node-at}
 
 -- ---- what a fresh node may spend
 unpaid-fresh : (w : ℕ → ℕ) (c : ℕ) (f : ℕ → Mark) (k : ℕ) → k < c → f k ≡ fresh → w k ≤ unpaid w c f
@@ -62,6 +62,18 @@ module _ (g dumps inputs replies : List ℕ) (minimise : Bool) (R S : List ℕ) 
   falls =
       let p = points (tableOf g) (rowsOf (countOf g) (w .made) R) (w .made) (markOf (countOf g) S) (l .fine .shape) (l .legal) in
       record { memory = λ m b e i. p .memory m e (omega (arith, table-length g)) }
+
+  pub row-kept : (k : ℕ) → k < countOf g → Kept g R k
+  unfolding view
+  row-kept k b =
+      let a = l .fine .shape .alike k (omega (arith, table-length g)) in
+      let r : nodeOf R k ≡ rowsOf (countOf g) (w .made) R k = sym (row-below (countOf g) (w .made) R k b) in
+      let n = node-at g k b in
+      record {
+        kind = ap (λ (nd : Node). nd .kind) r ∙ a .kind ∙ ap (λ (nd : Node). nd .kind) n;
+        sort = ap (λ (nd : Node). nd .sort) r ∙ a .sort ∙ ap (λ (nd : Node). nd .sort) n;
+        name = ap (λ (nd : Node). nd .name) r ∙ a .name ∙ ap (λ (nd : Node). nd .name) n;
+      }
 
 -- a row put leaves the room
 pub room-row : (g R Q S : List ℕ) (w : Walk) (k : ℕ) → length Q ≡ length R → Room g R S w k → Room g Q S w k
@@ -150,6 +162,9 @@ module _ (g dumps inputs replies : List ℕ) (minimise : Bool) (R S : List ℕ) 
 
   pub ready-falls : Ready g dumps inputs replies minimise R S w n → Falls (countOf g) (w .made) R
   ready-falls r = falls g dumps inputs replies minimise R S w (r .laid)
+
+  pub ready-kept : Ready g dumps inputs replies minimise R S w n → Kept g R n
+  ready-kept r = row-kept g dumps inputs replies minimise R S w (r .laid) n (r .inside)
 
   -- a visit of a node below n that is done leaves n ready
   pub ready-on : (Q T : List ℕ) (w′ : Walk) (k a : ℕ) (v : Answer.Visited) → Ready g dumps inputs replies minimise R S w n → k < n

@@ -15,8 +15,8 @@ use Rattle.rules.specs.Table.{Kind, Const, Input, Node, kinds, kindOf, kindCode
 use Rattle.rules.specs.Walk.{Held, setRow, setMark, addConst}
 use Rattle.rules.specs.Fold.{constOf}
 use Rattle.optimize.specs.declared.walk.Walk.{Walk}
-use Rattle.optimize.specs.View.{countOf, wordOf, nodeOf, rowsOf, markBy, view}
-use Rattle.optimize.proofs.Views.{six, six-other, six-0, six-1, six-2, six-3, six-4, six-5, rows-pushed, rows-put, marks-put, asked-same, row-below, row-made, row-past}
+use Rattle.optimize.specs.View.{countOf, wordOf, nodeOf, Kept, rowsOf, markBy, view}
+use Rattle.optimize.proofs.Views.{rows-pushed, rows-put, marks-put, asked-same, row-below, row-made, row-past}
 
 module _ (h : List Held) (g inputs replies R S : List ℕ) (w : Walk) where
   pub pushed : (n s x : ℕ) → n ≡ countOf g → 2 + 6 * n + 2 * (2 + w .made) + 1 < length R
@@ -49,21 +49,28 @@ module _ (h : List Held) (g inputs replies R S : List ℕ) (w : Walk) where
         asked-same (countOf g) (w .asked) S T (λ j a b. getD-set-other (set S k m) (countOf g + k) j r 0 (λ q. omega arith) ∙ getD-set-other S k j m 0 (λ q. omega arith)),
       )
 
-  pub rowed : (k u v x y z a b c : ℕ) (q : ℕ) → k < countOf g → 6 + 6 * k < length R → u ≡ getD g (1 + 6 * k) 0 → v ≡ wordOf g k 1 → x ≡ a → y ≡ b → z ≡ c → q ≡ wordOf g k 5
-      → view h g inputs replies (six R (1 + 6 * k) u v x y z q) S w ≡ setRow (view h g inputs replies R S w) k (with (nodeOf g k) a b c)
+  pub rowed : (k x y z a b c : ℕ) → k < countOf g → 6 + 6 * k < length R → Kept g R k → x ≡ a → y ≡ b → z ≡ c
+      → view h g inputs replies (set (set (set R (1 + 6 * k + 2) x) (1 + 6 * k + 3) y) (1 + 6 * k + 4) z) S w ≡ setRow (view h g inputs replies R S w) k (with (nodeOf g k) a b c)
   unfolding view
-  rowed k u v x y z a b c q l room e0 e1 e2 e3 e4 e5 =
-      let Q : List ℕ = six R (1 + 6 * k) u v x y z q in
-      let r : 1 + 6 * k + 5 < length R = omega arith in
-      let z0 : 1 + 6 * k + 0 ≡ 1 + 6 * k = omega arith in
-      let s0 : wordOf Q k 0 ≡ wordOf g k 0 = ap (λ i. getD Q i 0) z0 ∙ six-0 R (1 + 6 * k) u v x y z q r ∙ e0 ∙ sym (ap (λ i. getD g i 0) z0) in
-      let s1 : wordOf Q k 1 ≡ wordOf g k 1 = six-1 R (1 + 6 * k) u v x y z q r ∙ e1 in
-      let s2 : wordOf Q k 2 ≡ a = six-2 R (1 + 6 * k) u v x y z q r ∙ e2 in
-      let s3 : wordOf Q k 3 ≡ b = six-3 R (1 + 6 * k) u v x y z q r ∙ e3 in
-      let s4 : wordOf Q k 4 ≡ c = six-4 R (1 + 6 * k) u v x y z q r ∙ e4 in
-      let s5 : wordOf Q k 5 ≡ wordOf g k 5 = six-5 R (1 + 6 * k) u v x y z q r ∙ e5 in
+  rowed k x y z a b c l room kept ex ey ez =
+      let e : ℕ = 1 + 6 * k in
+      let P : List ℕ = set R (e + 2) x in
+      let O : List ℕ = set P (e + 3) y in
+      let Q : List ℕ = set O (e + 4) z in
+      let other : (i : ℕ) → (i ≡ e + 2 → ⊥) → (i ≡ e + 3 → ⊥) → (i ≡ e + 4 → ⊥) → getD Q i 0 ≡ getD R i 0 =
+      λ i p q r. getD-set-other O (e + 4) i z 0 r ∙ getD-set-other P (e + 3) i y 0 q ∙ getD-set-other R (e + 2) i x 0 p in
+      let s0 : kindOf (wordOf Q k 0) ≡ kindOf (wordOf g k 0) = ap kindOf (other (e + 0) (λ q. omega arith) (λ q. omega arith) (λ q. omega arith)) ∙ kept .kind in
+      let s1 : wordOf Q k 1 ≡ wordOf g k 1 = other (e + 1) (λ q. omega arith) (λ q. omega arith) (λ q. omega arith) ∙ kept .sort in
+      let s2 : wordOf Q k 2 ≡ a =
+      getD-set-other O (e + 4) (e + 2) z 0 (λ q. omega arith)
+      ∙ getD-set-other P (e + 3) (e + 2) y 0 (λ q. omega arith)
+      ∙ getD-set-same R (e + 2) x 0 (omega arith)
+      ∙ ex in
+      let s3 : wordOf Q k 3 ≡ b = getD-set-other O (e + 4) (e + 3) z 0 (λ q. omega arith) ∙ getD-set-same P (e + 3) y 0 (simp length-set (omega arith)) ∙ ey in
+      let s4 : wordOf Q k 4 ≡ c = getD-set-same O (e + 4) z 0 (simp length-set (omega arith)) ∙ ez in
+      let s5 : wordOf Q k 5 ≡ wordOf g k 5 = other (e + 5) (λ q. omega arith) (λ q. omega arith) (λ q. omega arith) ∙ kept .name in
       let here : nodeOf Q k ≡ with (nodeOf g k) a b c = cc in
-      rw (rows-put (countOf g) (w .made) R Q k (with (nodeOf g k) a b c) l (λ i d. six-other R (1 + 6 * k) u v x y z q i (λ a′ b′. d (omega arith) (omega arith))) here)
+      rw (rows-put (countOf g) (w .made) R Q k (with (nodeOf g k) a b c) l (λ i d. other i (λ q. d (omega arith) (omega arith)) (λ q. d (omega arith) (omega arith)) (λ q. d (omega arith) (omega arith))) here)
 
 -- two stores below a place leave what stands from there on
 pub two-sets : (n : ℕ) (S : List ℕ) (i j x y : ℕ) → i < n → j < n → drop n (set (set S i x) j y) ≡ drop n S

@@ -45,6 +45,12 @@ wordOf g v k = getD g (1 + 6 * v + k) 0
 abbrev pub nodeOf : List ℕ → ℕ → Node
 nodeOf g v = record { kind = kindOf (wordOf g v 0); sort = wordOf g v 1; a = wordOf g v 2; b = wordOf g v 3; c = wordOf g v 4; name = wordOf g v 5 }
 
+-- row v of a buffer has the given kind, sort and name
+pub record Kept (g R : List ℕ) (v : ℕ) : Type 0 where
+  pub kind : kindOf (wordOf R v 0) ≡ kindOf (wordOf g v 0)
+  pub sort : wordOf R v 1 ≡ wordOf g v 1
+  pub name : wordOf R v 5 ≡ wordOf g v 5
+
 -- the first c values of f
 unfoldable pub firsts : {A : Type 0} → ℕ → (ℕ → A) → List A
 firsts zero f = []

@@ -11,7 +11,7 @@ ghost use Rattle.rules.specs.Table.{kindOf, with};
 ghost use Rattle.rules.specs.Walk.{Held, setRow, setMark, addConst};
 ghost use Rattle.rules.specs.Fold.{constOf};
 ghost use Rattle.tables.specs.NodeAnswers.{kindIs};
-ghost use Rattle.optimize.specs.View.{constantIs, countOf, wordOf, nodeOf, rowsOf, markBy, view};
+ghost use Rattle.optimize.specs.View.{constantIs, countOf, wordOf, nodeOf, Kept, rowsOf, markBy, view};
 ghost use Rattle.optimize.specs.Counters.{walkIn, withWalk, oneMade};
 ghost use Rattle.optimize.specs.declared.walk.Walk.{Walk};
 
@@ -104,20 +104,17 @@ pub(crate) fn push(
     made_one(counters);
 }
 
-// A node's row, with the operands that it is left with.
+// A node's row, with the operands that it is left with; its kind, sort and name stand there as they were given.
 pub(crate) fn put_row(given: &[u64], result: &mut [u64], node: usize, a: usize, b: usize, c: usize)
     requires { ⌜ (node < countOf (now given)) × (countOf (now given) ≤ 4096) ⌝ }
-    requires { ⌜ 1 + 6 * countOf (now given) ≤ length (now given) ⌝ }
     requires { ⌜ 1 + 6 * countOf (now given) ≤ length (now result) ⌝ }
+    requires { ⌜ Kept (now given) (now result) node ⌝ }
     ensures { λ _. ⌜ ((h : List Held) (inputs replies S : List ℕ) (w : Walk) → view h (now (given .entry)) inputs replies (now (result .exit)) S w ≡ setRow (view h (now (given .entry)) inputs replies (now (result .entry)) S w) node (with (nodeOf (now (given .entry)) node) a b c)) ⌝ }
 {
     let at = 1 + 6 * node;
-    result[at] = given[at];
-    result[at + 1] = given[at + 1];
     result[at + 2] = wide(a);
     result[at + 3] = wide(b);
     result[at + 4] = wide(c);
-    result[at + 5] = given[at + 5];
 }
 
 // The mark and the replacement of a node.

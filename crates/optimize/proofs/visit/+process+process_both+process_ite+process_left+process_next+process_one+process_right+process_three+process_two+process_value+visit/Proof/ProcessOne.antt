@@ -18,6 +18,7 @@ use Rattle.optimize.proofs.counters.is_refused.Reads as is-refused-read
 use Rattle.optimize.specs.Counters.{walkIn}
 use Rattle.optimize.proofs.CounterLaws.{went, stopped}
 use Rattle.optimize.specs.CallWords.{inputsIn, repliesIn, waysBy}
+use Rattle.optimize.proofs.Keeps.{ready-kept}
 use Rattle.optimize.proofs.visit.+process+process_both+process_ite+process_left+process_next+process_one+process_right+process_three+process_two+process_value+visit.Proof.Measures.{process-one-at, visit-below}
 
 module _ (t : ℕ) where
@@ -66,9 +67,12 @@ module _ (t : ℕ) where
 
   put-row-requires : lts.Need-put-row-requires claims (process-one-at t) process-one.Post
   put-row-requires c κs =
-      let at-visit = c .before .before .before .before .before .before .before .before .before .before in
-      let start = at-visit .before .before .before .before .before .before .before .before in
-      (((start .pre .1 .1 .0), (start .pre .1 .0) .small), ((start .pre .1 .0) .whole, omega (arith, (start .pre .1 .0) .room, at-visit .visit .kept .1 .0)))
+      let at-if1 = c .before .before .before in
+      let at-is-refused = at-if1 .before in
+      let at-visit = at-is-refused .before .before .before .before .before .before in
+      let at-operand = at-visit .before in
+      let start = at-operand .before .before .before .before .before .before .before in
+      (((start .pre .1 .1 .0), (start .pre .1 .0) .small), (omega (arith, (start .pre .1 .0) .room, at-visit .visit .kept .1 .0), ready-kept _ _ _ _ _ _ _ _ _ (ready-on _ _ _ _ _ _ _ _ _ _ _ _ _ _ _ (ready _ _ _ _ _ _ _ _ _ (start .pre .1 .0) (start .pre .1 .1 .0) (start .pre .1 .1 .1 .0)) (omega (arith, at-operand .operand .ensures, (start .pre .1 .1 .1 .1 .0))) (at-visit .visit .ensures) (went _ _ _ (at-is-refused .is-refused .ensures) (at-if1 .if1 .left)) (at-visit .visit .kept .1 .0) (at-visit .visit .kept .1 .1 .0))))
 
   after-one-requires : lts.Need-after-one-requires claims (process-one-at t) process-one.Post
   after-one-requires c κs =
