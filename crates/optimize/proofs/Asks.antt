@@ -15,7 +15,6 @@ use Rattle.rules.specs.Visit.{Ways, settle}
 use Rattle.tables.specs.declared.refusal.Refusal as tables
 use Rattle.tables.specs.Refusals.{refusalOf}
 use Rattle.optimize.specs.declared.walk.Walk.{Walk}
-use Rattle.optimize.specs.declared.walk.Visited.{Visited}
 use Rattle.optimize.specs.declared.fold.Folded.{Folded}
 use Rattle.optimize.specs.declared.smt_solver.Asked.{Asked}
 use Rattle.optimize.specs.View.{tableOf, view, outcomeOf, foldIs}

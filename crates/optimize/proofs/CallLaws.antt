@@ -1,6 +1,6 @@
 -- Laws of the words that a call fixes: the parts of the given words that they name, and what holds over such a part.
 -- Assumes nothing.
-use Prim.Native.Nat.{ℕ, _-_, _<_, _≤_}
+use Prim.Native.Nat.{ℕ, _-_, _<_}
 use mathlib.Core.Path.{_≡_, ap, sym, _∙_, subst}
 use mathlib.Core.Bool.{Bool}
 use mathlib.Core.List.{List, [], flatten}

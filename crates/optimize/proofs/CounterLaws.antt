@@ -1,24 +1,24 @@
--- Laws of a walk's counters as words: what a visit answers with them, and what is kept when the walk is read from them.
+-- Laws of a walk's counters as words: what a visit answers with them, and what a walk or a refusal put into them leaves.
 -- Assumes nothing.
 use Prim.Native.Nat.{ℕ, zero, suc, _<_}
-use mathlib.Core.Path.{_≡_, refl, ap, sym, _∙_, subst}
+use mathlib.Core.Path.{_≡_, refl, ap, sym, _∙_}
 use mathlib.Core.Bool.{Bool, true, false, not}
 use mathlib.Core.List.{List, [], _∷_}
 use native.Mathlib.Omega.{arith}
+use borrow.Author.Tests.{ne-eqb}
 use lib.ListN.{getD, List·getD-eq-default}
 use lib.Dec.{eqb}
 use Rattle.rules.specs.Refusal as rules
 use Rattle.rules.specs.Refusal.{Out, refused}
-use Rattle.rules.specs.Table.{Node}
-use Rattle.rules.specs.Walk.{St, Held, setRow}
+use Rattle.rules.specs.Walk.{St, Held}
 use Rattle.rules.proofs.Base.{inside-or-past}
 use Rattle.tables.specs.declared.refusal.Refusal.{Refusal}
 use Rattle.tables.specs.Refusals.{refusalOf}
+use Rattle.tables.proofs.RefusalLaws.{numbered}
 use Rattle.optimize.specs.declared.walk.Walk.{Walk}
 use Rattle.optimize.specs.declared.walk.Visited.{Visited}
 use Rattle.optimize.specs.View.{view, outcomeOf, Meets}
-use Rattle.optimize.specs.Folding.{Falls}
-use Rattle.optimize.specs.Laid.{Room, Visits}
+use Rattle.optimize.specs.Laid.{Visits}
 use Rattle.optimize.specs.Counters.{walkIn, refusedIn, withWalk, withRefusal, roomAt, refusalsAt, refusalBy, refusalIn, answerIn}
 
 -- ---- answers
@@ -35,24 +35,6 @@ pub met : (g inputs replies R S : List ℕ) (x : ℕ) (C : List ℕ) (v : Visite
 met g inputs replies R S x C v o e m = (m .0, ap (λ z. outcomeOf (m .0) g inputs replies z R S) e ∙ m .1)
 
 -- ---- refusals
-pub numbered : (z : Refusal) → eqb (refusalOf z .reason) 0 ≡ false
-numbered Refusal.Mode = refl
-numbered (Refusal.Short s) = refl
-numbered (Refusal.OverLimit s) = refl
-numbered (Refusal.Malformed p) = refl
-numbered (Refusal.OperandNotBefore p) = refl
-numbered (Refusal.Sorts p) = refl
-numbered (Refusal.Entry s p) = refl
-numbered (Refusal.SecondSequential p) = refl
-numbered (Refusal.MemoryInput p) = refl
-numbered (Refusal.ReplacedState p) = refl
-numbered (Refusal.InputTooWide p) = refl
-numbered (Refusal.Reply p) = refl
-numbered Refusal.ResultRoom = refl
-numbered Refusal.ScratchRoom = refl
-numbered (Refusal.AlwaysTrue s p) = refl
-numbered (Refusal.Satisfiable s p) = refl
-
 -- a refusal is found again by its number, section and position
 pub found-again : (z : Refusal) → refusalOf (refusalBy (refusalOf z .reason) (refusalOf z .section) (refusalOf z .position)) ≡ refusalOf z
 unfolding refusalBy
@@ -106,7 +88,7 @@ stands h g inputs replies R S x C o r e = ap (λ z. outcomeOf h g inputs replies
 -- the refusal that ended the walk
 module _ (z : Refusal) (C C′ : List ℕ) (e : C′ ≡ withRefusal (refusalOf z) C) where
   pub refused-with : refusedIn C′ ≡ true
-  refused-with = ap refusedIn e ∙ ap not (numbered z)
+  refused-with = ap refusedIn e ∙ ap not (ne-eqb (refusalOf z .reason) 0 (λ q. omega (arith, numbered z)))
 
   pub refusal-with : refusalOf (refusalIn C′) ≡ refusalOf z
   refusal-with = ap (λ D. refusalOf (refusalIn D)) e ∙ found-again z
@@ -124,15 +106,3 @@ pub entered : (g inputs replies R S : List ℕ) (w w′ : Walk) (r r′ : Visite
 entered g inputs replies R S w w′ r r′ Q T least rule e d v h f l =
     let m = v h f l in
     (m .0, ap (λ z. outcomeOf (m .0) g inputs replies z Q T) d ∙ m .1 ∙ ap (λ z. rule f (view h g inputs replies R S z)) e)
-
--- ---- a walk that was read from the counters
-module _ (w w′ : Walk) (e : w ≡ w′) where
-  pub room-in : (g R S : List ℕ) (k : ℕ) → Room g R S w′ k → Room g R S w k
-  room-in g R S k = subst (λ v. Room g R S v k) (sym e)
-
-  pub falls-in : (n : ℕ) (R : List ℕ) → Falls n (w′ .made) R → Falls n (w .made) R
-  falls-in n R = subst (λ (v : Walk). Falls n (v .made) R) (sym e)
-
-  pub row-in : (h : List Held) (g inputs replies R Q S : List ℕ) (k : ℕ) (nd : Node) → view h g inputs replies Q S w ≡ setRow (view h g inputs replies R S w) k nd
-      → view h g inputs replies Q S w ≡ setRow (view h g inputs replies R S w′) k nd
-  row-in h g inputs replies R Q S k nd p = p ∙ ap (λ v. setRow (view h g inputs replies R S v) k nd) e

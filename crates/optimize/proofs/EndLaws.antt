@@ -20,12 +20,11 @@ use Rattle.rules.proofs.Base.{put-other}
 use Rattle.optimize.specs.declared.walk.Walk.{Walk}
 use Rattle.optimize.specs.declared.result.Kept.{Kept}
 use Rattle.optimize.specs.declared.result.Sizes.{Sizes}
-use Rattle.optimize.specs.View.{countOf, wordOf, nodeOf, tableOf, rowsOf, view}
+use Rattle.optimize.specs.View.{countOf, wordOf, nodeOf, rowsOf, view}
 use Rattle.optimize.specs.ResultView.{Finished, foldedIn, Handed}
 use Rattle.optimize.specs.Laid.{Laid}
 use Rattle.optimize.specs.Ending.{KindsKept, Ended}
 use Rattle.optimize.proofs.Views.{same-or, rows-put, row-below}
-use Rattle.optimize.proofs.Steps.{table-length}
 use Rattle.optimize.proofs.Keeps.{row-kept}
 
 -- ---- counters

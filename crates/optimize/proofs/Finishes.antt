@@ -1,9 +1,9 @@
 -- What comes after a node's operands: it is finished, asked about, takes an input or is forwarded, as the rules say.
 -- Assumes nothing.
-use Prim.Native.Nat.{ℕ, zero, suc, _+_, _*_, _<_, _≤_, _^_}
+use Prim.Native.Nat.{ℕ, zero, suc, _+_, _<_, _≤_}
 use mathlib.Core.Path.{_≡_, refl, ap, sym, _∙_, subst}
-use mathlib.Core.Bool.{Bool, true, false, cond}
-use mathlib.Core.Option.{Option, none, some}
+use mathlib.Core.Bool.{Bool, true, false}
+use mathlib.Core.Option.{Option}
 use mathlib.Core.List.{List, [], _∷_, _++_}
 use native.Mathlib.Numerals.{add-one}
 use native.Mathlib.Omega.{arith}
@@ -12,9 +12,9 @@ use lib.Dec.{eqb, ltb}
 use lib.Seq.{drop-cons}
 use borrow.Author.Tests.{eq-eqb, ne-eqb, ltb-true, ltb-false}
 use Rattle.btor.specs.Operators.{rust}
-use Rattle.rules.specs.Refusal.{Out, done, refuse, _>>=_}
-use Rattle.rules.specs.Table.{Kind, Node, fits}
-use Rattle.rules.specs.Walk.{St, Mark, fresh, kept, replaced, Held, setInputs, addHeld, addTally}
+use Rattle.rules.specs.Refusal.{Out, done, refuse}
+use Rattle.rules.specs.Table.{Kind, fits}
+use Rattle.rules.specs.Walk.{St, fresh, kept, replaced, Held, setInputs, addHeld, addTally}
 use Rattle.rules.specs.Fold.{Fold, stays, swap, make, constOf}
 use Rattle.rules.specs.Memory as rules
 use Rattle.rules.specs.Memory.{find, foldFound, passedBy}

@@ -1,8 +1,8 @@
 -- What the walk keeps: a done visit leaves the buffers laid as they were, with marks from the next node on unchanged.
 -- Assumes nothing.
-use Prim.Native.Nat.{ℕ, zero, suc, _+_, _*_, _<_, _≤_}
-use mathlib.Core.Path.{_≡_, refl, ap, sym, _∙_, subst}
-use mathlib.Core.Bool.{Bool, true, false}
+use Prim.Native.Nat.{ℕ, zero, suc, _+_, _<_, _≤_}
+use mathlib.Core.Path.{_≡_, ap, sym, _∙_, subst}
+use mathlib.Core.Bool.{Bool, true}
 use mathlib.Core.List.{List}
 use native.Mathlib.Omega.{arith}
 use lib.ListN.{length}
@@ -13,9 +13,9 @@ use Rattle.rules.specs.Table.{Kind, Write, Node, kindOf, kindCode, with, is}
 use Rattle.rules.specs.Room.{due, unpaid}
 use Rattle.rules.specs.Walk.{St, Mark, fresh, Held, setRow}
 use Rattle.rules.specs.Visit.{Ways}
-use Rattle.rules.proofs.Base.{If, no, cases-cond, put-all}
+use Rattle.rules.proofs.Base.{If, no, put-all}
 use Rattle.rules.proofs.Shape.{points}
-use Rattle.rules.proofs.Went.{Fine, Went, Visited, fee}
+use Rattle.rules.proofs.Went.{Visited, fee}
 use Rattle.rules.proofs.Structure.{visit-went}
 use Rattle.optimize.specs.declared.walk.Walk.{Walk}
 use Rattle.optimize.specs.declared.walk.Visited as Answer

@@ -1,9 +1,7 @@
 -- What a read of a buffer says of the state that lies there, and what a store makes of that state.
 -- Assumes nothing.
-use mathlib.Core.Path.{_≡_, refl, ap, ap₂, sym, _∙_, fun-ext, subst}
-use mathlib.Core.Logic.{_≢_}
+use mathlib.Core.Path.{_≡_, refl, ap, ap₂, sym, _∙_, fun-ext}
 use mathlib.Core.Bool.{Bool, true, false, cond}
-use mathlib.Core.Option.{Option, none, some}
 use mathlib.Core.List.{List, [], _∷_, _++_}
 use Prim.Native.Nat.{ℕ, zero, suc, _+_, _-_, _*_, _<_, _≤_}
 use native.Mathlib.Numerals.{add-one}
@@ -11,12 +9,12 @@ use native.Mathlib.Omega.{arith}
 use lib.Dec.{ltb, eqb, lit<}
 use lib.ListN.{length, getD, set, length-set, length-append, List·getD-append}
 use lib.Seq.{getD-set-same, getD-set-other, getD-append-seam}
-use borrow.Author.Tests.{ltb-true, ltb-false, eqb-true, eqb-false, lt-ltb, le-ltb, eq-eqb, ne-eqb}
+use borrow.Author.Tests.{ltb-true, ltb-false, eqb-true, eqb-false, lt-ltb, le-ltb, eq-eqb}
 use Rattle.rules.specs.Table.{Node, constant, unknown}
 use Rattle.rules.specs.Lists.{put}
-use Rattle.rules.specs.Walk.{Mark, fresh}
+use Rattle.rules.specs.Walk.{fresh}
 use Rattle.rules.specs.Questions.{question}
-use Rattle.rules.proofs.Base.{put-same, put-other}
+use Rattle.rules.proofs.Base.{put-other}
 use Rattle.optimize.specs.View.{wordOf, nodeOf, firsts, rowsOf, markBy, markOf, questionOf}
 
 pub split : {P : Type 0} (k n : ℕ) → (k < n → P) → (n ≤ k → P) → P
@@ -164,62 +162,6 @@ pub asked-more : (n c : ℕ) (S T : List ℕ) (q x y r : ℕ) → ((i : ℕ) →
 asked-more n c S T q x y r h a b d e =
     let f : questionOf n T c ≡ question q x y [] r = cc in
     firsts-more c (questionOf n T) ∙ ap₂ (λ l z. l ++ (z ∷ [])) (asked-same n c S T (λ i _ l. h i l)) f
-
--- ---- six stores in a row
-abbrev pub six : List ℕ → ℕ → ℕ → ℕ → ℕ → ℕ → ℕ → ℕ → List ℕ
-six R e u v w x y z = set (set (set (set (set (set R e u) (e + 1) v) (e + 2) w) (e + 3) x) (e + 4) y) (e + 5) z
-
-module _ (R : List ℕ) (e u v w x y z : ℕ) where
-  pub six-other : (i : ℕ) → (e ≤ i → i < e + 6 → ⊥) → getD (six R e u v w x y z) i 0 ≡ getD R i 0
-  six-other i h =
-      getD-set-other (set (set (set (set (set R e u) (e + 1) v) (e + 2) w) (e + 3) x) (e + 4) y) (e + 5) i z 0 (λ q. h (omega arith) (omega arith))
-      ∙ getD-set-other (set (set (set (set R e u) (e + 1) v) (e + 2) w) (e + 3) x) (e + 4) i y 0 (λ q. h (omega arith) (omega arith))
-      ∙ getD-set-other (set (set (set R e u) (e + 1) v) (e + 2) w) (e + 3) i x 0 (λ q. h (omega arith) (omega arith))
-      ∙ getD-set-other (set (set R e u) (e + 1) v) (e + 2) i w 0 (λ q. h (omega arith) (omega arith))
-      ∙ getD-set-other (set R e u) (e + 1) i v 0 (λ q. h (omega arith) (omega arith))
-      ∙ getD-set-other R e i u 0 (λ q. h (omega arith) (omega arith))
-
-  module _ (room : e + 5 < length R) where
-    pub six-0 : getD (six R e u v w x y z) e 0 ≡ u
-    six-0 = rw (
-      getD-set-other (set (set (set (set (set R e u) (e + 1) v) (e + 2) w) (e + 3) x) (e + 4) y) (e + 5) e z 0 (λ q. omega arith),
-      getD-set-other (set (set (set (set R e u) (e + 1) v) (e + 2) w) (e + 3) x) (e + 4) e y 0 (λ q. omega arith),
-      getD-set-other (set (set (set R e u) (e + 1) v) (e + 2) w) (e + 3) e x 0 (λ q. omega arith),
-      getD-set-other (set (set R e u) (e + 1) v) (e + 2) e w 0 (λ q. omega arith),
-      getD-set-other (set R e u) (e + 1) e v 0 (λ q. omega arith),
-    )
-        (getD-set-same R e u 0 (omega arith))
-
-    pub six-1 : getD (six R e u v w x y z) (e + 1) 0 ≡ v
-    six-1 = rw (
-      getD-set-other (set (set (set (set (set R e u) (e + 1) v) (e + 2) w) (e + 3) x) (e + 4) y) (e + 5) (e + 1) z 0 (λ q. omega arith),
-      getD-set-other (set (set (set (set R e u) (e + 1) v) (e + 2) w) (e + 3) x) (e + 4) (e + 1) y 0 (λ q. omega arith),
-      getD-set-other (set (set (set R e u) (e + 1) v) (e + 2) w) (e + 3) (e + 1) x 0 (λ q. omega arith),
-      getD-set-other (set (set R e u) (e + 1) v) (e + 2) (e + 1) w 0 (λ q. omega arith),
-    )
-        (getD-set-same (set R e u) (e + 1) v 0 (simp length-set (omega arith)))
-
-    pub six-2 : getD (six R e u v w x y z) (e + 2) 0 ≡ w
-    six-2 = rw (
-      getD-set-other (set (set (set (set (set R e u) (e + 1) v) (e + 2) w) (e + 3) x) (e + 4) y) (e + 5) (e + 2) z 0 (λ q. omega arith),
-      getD-set-other (set (set (set (set R e u) (e + 1) v) (e + 2) w) (e + 3) x) (e + 4) (e + 2) y 0 (λ q. omega arith),
-      getD-set-other (set (set (set R e u) (e + 1) v) (e + 2) w) (e + 3) (e + 2) x 0 (λ q. omega arith),
-    )
-        (getD-set-same (set (set R e u) (e + 1) v) (e + 2) w 0 (simp length-set (omega arith)))
-
-    pub six-3 : getD (six R e u v w x y z) (e + 3) 0 ≡ x
-    six-3 = rw (
-      getD-set-other (set (set (set (set (set R e u) (e + 1) v) (e + 2) w) (e + 3) x) (e + 4) y) (e + 5) (e + 3) z 0 (λ q. omega arith),
-      getD-set-other (set (set (set (set R e u) (e + 1) v) (e + 2) w) (e + 3) x) (e + 4) (e + 3) y 0 (λ q. omega arith),
-    )
-        (getD-set-same (set (set (set R e u) (e + 1) v) (e + 2) w) (e + 3) x 0 (simp length-set (omega arith)))
-
-    pub six-4 : getD (six R e u v w x y z) (e + 4) 0 ≡ y
-    six-4 = rw (getD-set-other (set (set (set (set (set R e u) (e + 1) v) (e + 2) w) (e + 3) x) (e + 4) y) (e + 5) (e + 4) z 0 (λ q. omega arith))
-        (getD-set-same (set (set (set (set R e u) (e + 1) v) (e + 2) w) (e + 3) x) (e + 4) y 0 (simp length-set (omega arith)))
-
-    pub six-5 : getD (six R e u v w x y z) (e + 5) 0 ≡ z
-    six-5 = getD-set-same (set (set (set (set (set R e u) (e + 1) v) (e + 2) w) (e + 3) x) (e + 4) y) (e + 5) z 0 (simp length-set (omega arith))
 
 -- ---- four stores in a row
 abbrev pub four : List ℕ → ℕ → ℕ → ℕ → ℕ → ℕ → List ℕ

@@ -6,10 +6,10 @@
 -- Assumes nothing.
 use Prim.Native.Nat.{ℕ, _<_}
 use mathlib.Core.Bool.{Bool, true, false, cond}
-use mathlib.Core.List.{List, [], _∷_}
+use mathlib.Core.List.{List}
 use lib.Dec.{eqb}
 use Rattle.rules.specs.Refusal.{Out, refused, done, refuse, _>>=_}
-use Rattle.rules.specs.Table.{Kind, Const, Read, Write, Word, Ult, Ext, Ite, Eq, And, Or, Not, State, Next, Input, Bad, Node, kindOf, with}
+use Rattle.rules.specs.Table.{Kind, Const, Read, Write, Word, Ult, Ext, Ite, Eq, And, Or, Not, State, Next, Input, Bad, kindOf, with}
 use Rattle.rules.specs.Walk.{St, Mark, fresh, kept, replaced, Held, setRow}
 use Rattle.rules.specs.Fold.{Fold, stays, swap, make, constOf, foldConst}
 use Rattle.rules.specs.Questions.{quiet, askOr, askBit, askIte}

@@ -7,3 +7,4 @@ pub mod ListLaws
 pub mod NameLaws
 pub mod LabelLaws
 pub mod JudgedLaws
+pub mod RefusalLaws

@@ -11,7 +11,7 @@ use native.Mathlib.Omega.{arith}
 use native.Mathlib.Nat.{sub-zero, zero-sub, suc-sub-suc, zero-add}
 use lib.ListN.{length, getD, take, drop, length-drop}
 use lib.Seq.{take-nil, take-all, take-take, drop-drop, length-take-le}
-use lib.Dec.{ltb, leb, lit<}
+use lib.Dec.{leb}
 use borrow.Author.Tests.{lt-ltb, le-ltb, leb-true, leb-false}
 use Rattle.rules.specs.Refusal.{Refusal, Out, refused, done, refuse, _>>=_}
 use Rattle.rules.specs.Limits.{house, highestMode, modeOf}
@@ -29,16 +29,16 @@ use Rattle.text.specs.declared.reader.Numbers.{Numbers}
 use Rattle.text.specs.declared.reader.Numbers.the-variants.{Whole}
 use Rattle.text.specs.Printing.{page, laid, acceptedText}
 use Rattle.text.specs.declared.printer.Place.{Place}
-use Rattle.text.specs.declared.printer.Place.the-variants.{At, Full}
+use Rattle.text.specs.declared.printer.Place.the-variants.{At}
 use Rattle.text.specs.declared.split.Names.{Names}
-use Rattle.text.specs.declared.split.Names.the-variants.{Bytes, NamesOver, NamesShort}
+use Rattle.text.specs.declared.split.Names.the-variants.{Bytes}
 use Rattle.text.specs.declared.split.End.{End}
 use Rattle.text.specs.declared.split.End.the-variants.{At as EndAt}
 use Rattle.text.proofs.Laid.{laid-fits, laid-full}
 use Rattle.text.proofs.Answer.{accepted-is}
 use Rattle.tables.specs.Refusals.{refusalOf}
+use Rattle.tables.proofs.RefusalLaws.{numbered}
 use Rattle.tables.specs.declared.refusal.Refusal.{Refusal as Reason}
-use Rattle.tables.specs.declared.refusal.Refusal.the-variants.{Mode as ModeHigh, Short, OverLimit, Malformed, OperandNotBefore, Sorts, Entry, SecondSequential, MemoryInput, ReplacedState, InputTooWide, Reply, ResultRoom, ScratchRoom, AlwaysTrue, Satisfiable}
 use Rattle.optimize.specs.Entries.{answered}
 use Rattle.optimize.specs.declared.walk.Optimized.the-variants.{Done, Refused}
 use Rattle.text_answer.specs.Answering.{sizeOf, Shown, callOf, afterMode, answerAfter}
@@ -173,24 +173,6 @@ unfolding left
 accepted-shown call k result e f =
     let d = accepted-answer house impl call (sym (ap (λ a. a .number) e)) in
     ap acceptedText (f ∙ ap (resultOf (call .resultRoom)) (d .1)) ∙ accepted-is (d .0) _ ∙ ap printed (sym (d .1))
-
-numbered : (w : Reason) → 0 < refusalOf w .reason
-numbered ModeHigh = lit< tt
-numbered (Short s) = lit< tt
-numbered (OverLimit s) = lit< tt
-numbered (Malformed k) = lit< tt
-numbered (OperandNotBefore k) = lit< tt
-numbered (Sorts k) = lit< tt
-numbered (Entry s k) = lit< tt
-numbered (SecondSequential k) = lit< tt
-numbered (MemoryInput k) = lit< tt
-numbered (ReplacedState k) = lit< tt
-numbered (InputTooWide k) = lit< tt
-numbered (Reply k) = lit< tt
-numbered ResultRoom = lit< tt
-numbered ScratchRoom = lit< tt
-numbered (AlwaysTrue s k) = lit< tt
-numbered (Satisfiable s k) = lit< tt
 
 pub refused-shown : (call : Call) (w : Reason) (n s p : ℕ) → n ≡ refusalOf w .reason → s ≡ refusalOf w .section → p ≡ refusalOf w .position
     → answered (Refused w) ≡ left house impl call .answer → printed (refuse n s p) ≡ printed (outcome house impl call)

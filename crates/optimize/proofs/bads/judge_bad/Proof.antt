@@ -1,11 +1,10 @@
 -- The rules' judgement by the condition, and by the reply where it is open.
 -- Assumes nothing.
 use borrow.Author.Needs.{needs}
-use mathlib.Core.Path.{_≡_, sym, ap, _∙_}
-use native.Mathlib.Omega.{arith}
+use mathlib.Core.Path.{sym, _∙_}
 use borrow.Author.Tests.{not-true, not-false}
 use Rattle.optimize.specs.Bads.{retainedOf}
-use Rattle.optimize.specs.View.{view, waysIn}
+use Rattle.optimize.specs.View.{waysIn}
 use Rattle.optimize.proofs.BadLaws.{bad-zero, bad-refused, bad-one, bad-unasked, bad-replied, bad-stopped}
 use Rattle.optimize.proofs.bads.judge_bad.Statement.{statement}
 use Rattle.optimize.proofs.bads.judge_bad.Tie as tie

@@ -1,8 +1,8 @@
 -- The first i bads are judged; what the rules make of the list is what they make of the rest, after those kept.
 -- Assumes nothing.
 use borrow.Author.Needs.{needs}
-use Prim.Native.Nat.{ℕ, suc, _+_, _-_, _*_, _<_, _≤_}
-use mathlib.Core.Path.{_≡_, refl, sym, ap, _∙_, subst}
+use Prim.Native.Nat.{ℕ, _+_, _-_, _<_, _≤_}
+use mathlib.Core.Path.{_≡_, refl, sym, _∙_, subst}
 use mathlib.Core.List.{List, []}
 use native.Mathlib.Omega.{arith}
 use lib.ListN.{length, getD, take, drop}
@@ -10,7 +10,7 @@ use lib.Seq.{length-take-le}
 use Rattle.rules.specs.Refusal.{done, _>>=_}
 use Rattle.rules.specs.Legal.{BadEntry}
 use Rattle.rules.specs.Walk.{Held}
-use Rattle.optimize.specs.View.{countOf, tableOf, waysIn, view}
+use Rattle.optimize.specs.View.{tableOf, view}
 use Rattle.optimize.specs.Laid.{Laid}
 use Rattle.optimize.specs.Lists.{entriesOf}
 use Rattle.optimize.specs.Bads.{Spare, listRule}

@@ -1,11 +1,10 @@
 -- The judgement is lent the words before the lists.
 -- Assumes nothing.
 use borrow.Author.Needs.{needs}
-use Prim.Native.Nat.{ℕ, _-_}
-use mathlib.Core.Path.{_≡_, refl, sym, ap, _∙_, subst}
+use Prim.Native.Nat.{_-_}
+use mathlib.Core.Path.{sym, subst}
 use native.Mathlib.Omega.{arith}
-use lib.ListN.{take, drop}
-use Rattle.optimize.specs.View.{waysIn, view}
+use lib.ListN.{take}
 use Rattle.optimize.specs.Laid.{Laid}
 use Rattle.optimize.specs.Bads.{Spare, Retains, retainRule}
 use Rattle.optimize.proofs.Entries.{part-front, part-rest, part-whole, zero-less}

@@ -1,11 +1,11 @@
 -- The visit, then the judgement by the rewritten condition.
 -- Assumes nothing.
 use borrow.Author.Needs.{needs}
-use Prim.Native.Nat.{ℕ, _+_}
-use mathlib.Core.Path.{_≡_, refl, sym, ap, _∙_}
+use Prim.Native.Nat.{_+_}
+use mathlib.Core.Path.{_∙_}
 use native.Mathlib.Omega.{arith}
 use Rattle.optimize.specs.Bads.{retainedOf}
-use Rattle.optimize.specs.View.{view, waysIn}
+use Rattle.optimize.specs.View.{view}
 use Rattle.optimize.proofs.Entries.{laid-visited}
 use Rattle.optimize.proofs.BadLaws.{retain-done, retain-refused, spare-visited}
 use Rattle.optimize.proofs.CallLaws.{retained-by}

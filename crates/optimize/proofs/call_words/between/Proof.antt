@@ -1,7 +1,6 @@
 -- A part that ends where the words do, a whole part, or none.
 -- Assumes nothing.
 use borrow.Author.Needs.{needs}
-use mathlib.Core.Path.{_≡_, refl, ap, sym, _∙_, subst}
 use native.Mathlib.Omega.{arith}
 use Rattle.optimize.proofs.CallLaws.{between-none, between-past, between-rest}
 use Rattle.optimize.proofs.call_words.between.Statement.{statement}

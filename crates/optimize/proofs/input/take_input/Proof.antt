@@ -6,10 +6,10 @@ use borrow.Author.Tests.{not-true, not-false}
 use mathlib.Core.List.{[], _∷_, _++_}
 use lib.ListN.{getD, drop}
 use Rattle.rules.specs.Table.{fits}
-use Rattle.optimize.specs.View.{view, outcomeOf, foldIs, countOf, tableOf, waysIn, constantIs}
+use Rattle.optimize.specs.View.{view, countOf, tableOf, waysIn}
 use Rattle.optimize.proofs.Finishes.{take-none, take-dump, take-memory, take-wide, take-made, inputs-none, inputs-some, took}
-use mathlib.Core.Path.{_≡_, refl, ap, sym, _∙_, subst}
-use Prim.Native.Nat.{ℕ, suc, _+_, _<_}
+use mathlib.Core.Path.{ap, sym, _∙_, subst}
+use Prim.Native.Nat.{suc, _+_, _<_}
 use Rattle.rules.specs.Fold.{make}
 use Rattle.tables.specs.declared.refusal.Refusal.{Refusal}
 use Rattle.rules.specs.Visit.{newNumber, settle}

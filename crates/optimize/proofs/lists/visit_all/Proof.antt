@@ -1,14 +1,14 @@
 -- The first i entries are visited; the list stays, and what the rules make of it is what they make of the rest.
 -- Assumes nothing.
 use borrow.Author.Needs.{needs}
-use Prim.Native.Nat.{ℕ, suc, _+_, _-_, _*_, _<_, _≤_}
-use mathlib.Core.Path.{_≡_, refl, sym, ap, _∙_, subst}
+use Prim.Native.Nat.{_+_, _-_, _<_, _≤_}
+use mathlib.Core.Path.{_≡_, refl, sym, _∙_, subst}
 use mathlib.Core.List.{List}
 use native.Mathlib.Omega.{arith}
-use lib.ListN.{length, getD, take, drop}
+use lib.ListN.{length, take, drop}
 use Rattle.rules.specs.Walk.{Held}
 use Rattle.rules.specs.Whole.{visitAll}
-use Rattle.optimize.specs.View.{countOf, tableOf, waysIn, view}
+use Rattle.optimize.specs.View.{countOf, tableOf, view}
 use Rattle.optimize.specs.Laid.{Laid}
 use Rattle.optimize.specs.Lists.{entriesOf}
 use lib.Seq.{length-take-le}

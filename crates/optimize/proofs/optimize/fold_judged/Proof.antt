@@ -1,7 +1,7 @@
 -- What the walk hands back of a call in order is what the rules leave.
 -- Assumes nothing.
 use borrow.Author.Needs.{needs}
-use mathlib.Core.Path.{sym, ap, _∙_}
+use mathlib.Core.Path.{ap, _∙_}
 use Rattle.tables.specs.Judging.{callWith}
 use lib.ListN.{length}
 use Rattle.optimize.specs.Entries.{answered, entryIs}

@@ -1,11 +1,10 @@
 -- The two lists one after the other; where both are judged the result is written.
 -- Assumes nothing.
 use borrow.Author.Needs.{needs}
-use mathlib.Core.Path.{_≡_, refl, sym, ap, _∙_}
+use mathlib.Core.Path.{_∙_}
 use native.Mathlib.Omega.{arith}
-use Prim.Native.Nat.{ℕ, _+_}
-use lib.ListN.{length, take}
-use Rattle.optimize.specs.View.{view}
+use Prim.Native.Nat.{_+_}
+use lib.ListN.{length}
 use Rattle.optimize.proofs.BadsJoined.{judged-refused, judged-done, lists-fit, ended, model-of, both-ended, first-ends, later-ends}
 use Rattle.optimize.proofs.run.fold_bads.Statement.{statement}
 use Rattle.optimize.proofs.run.fold_bads.Tie as tie

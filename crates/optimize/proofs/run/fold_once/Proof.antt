@@ -1,15 +1,14 @@
 -- The initial bads, the last question and the later bads as given; where the question is answered the result is written.
 -- Assumes nothing.
 use borrow.Author.Needs.{needs}
-use mathlib.Core.Path.{_≡_, refl, sym, ap, _∙_}
+use mathlib.Core.Path.{refl, _∙_}
 use native.Mathlib.Omega.{arith}
-use Prim.Native.Nat.{ℕ, _+_}
-use lib.ListN.{length, take, length-take}
-use Rattle.optimize.specs.View.{view}
+use Prim.Native.Nat.{_+_}
+use lib.ListN.{length}
 use Rattle.optimize.specs.Runs.{modelIn, modeIn}
 use mathlib.Core.Bool.{true}
 use Rattle.optimize.proofs.BadsJoined.{judged-refused, judged-done, lists-fit, model-of}
-use Rattle.optimize.proofs.OnceJoined.{spare-place, before-place, answered-refused, answered-done, last-made, last-asks, once-ended, once-first, once-last, once-length, once-done}
+use Rattle.optimize.proofs.OnceJoined.{spare-place, before-place, answered-refused, answered-done, last-made, last-asks, once-ended, once-first, once-last, once-done}
 use Rattle.optimize.specs.CallWords.{inputsIn, repliesIn, minimiseIn}
 use Rattle.optimize.proofs.run.fold_once.Statement.{statement}
 use Rattle.optimize.proofs.run.fold_once.Tie as tie

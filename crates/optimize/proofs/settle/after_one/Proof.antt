@@ -1,8 +1,7 @@
 -- What foldOne says of the operand is recorded.
 -- Assumes nothing.
 use borrow.Author.Needs.{needs}
-use mathlib.Core.Path.{_≡_, refl, ap, sym, _∙_}
-use Rattle.optimize.specs.View.{view, outcomeOf, foldIs, countOf, tableOf, waysIn, constantIs}
+use mathlib.Core.Path.{_∙_}
 use Rattle.tables.specs.NodeAnswers.{kindIs}
 use Rattle.optimize.proofs.Finishes.{one-is}
 use native.Mathlib.Omega.{arith}

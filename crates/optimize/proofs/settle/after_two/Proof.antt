@@ -1,9 +1,7 @@
 -- A Read is forwarded; any other node of two operands folds by its kind.
 -- Assumes nothing.
 use borrow.Author.Needs.{needs}
-use mathlib.Core.Path.{_≡_, refl, ap, sym, _∙_}
-use native.Mathlib.Omega.{arith}
-use Rattle.optimize.specs.View.{view, outcomeOf, foldIs, countOf, tableOf, waysIn, constantIs}
+use mathlib.Core.Path.{sym, _∙_}
 use Rattle.tables.specs.NodeAnswers.{kindIs}
 use Rattle.optimize.proofs.Finishes.{two-is, read-is}
 use Rattle.optimize.specs.CallWords.{repliesIn, minimiseIn, waysBy}

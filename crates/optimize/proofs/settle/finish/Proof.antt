@@ -1,10 +1,10 @@
 -- A folded node is settled; one that stays is asked about under minimise, as a bit or not at all.
 -- Assumes nothing.
 use borrow.Author.Needs.{needs}
-use mathlib.Core.Path.{_≡_, refl, ap, sym, _∙_}
+use mathlib.Core.Path.{sym, _∙_}
 use borrow.Author.Tests.{not-true, not-false}
-use Rattle.optimize.specs.View.{view, outcomeOf, foldIs, countOf, tableOf, waysIn, constantIs}
-use Rattle.optimize.specs.Process.{solvedOf, thenAsk, settleThen, bitOf}
+use Rattle.optimize.specs.View.{view, foldIs}
+use Rattle.optimize.specs.Process.{bitOf}
 use native.Mathlib.Omega.{arith}
 use Rattle.optimize.proofs.Finishes.{finish-folded, finish-quiet, quiet-stays, finish-by}
 use Rattle.optimize.specs.CallWords.{repliesIn, minimiseIn, waysBy}

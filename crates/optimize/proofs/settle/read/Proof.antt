@@ -2,10 +2,10 @@
 -- Assumes nothing.
 use borrow.Author.Needs.{needs}
 use native.Mathlib.Omega.{arith}
-use Rattle.rules.specs.Fold.{stays, swap}
+use Rattle.rules.specs.Fold.{stays}
 use Rattle.rules.specs.Memory.{foldFound, passedBy}
 use Rattle.optimize.specs.Folding.{valueIs}
-use mathlib.Core.Path.{_≡_, refl, ap, sym, _∙_, subst}
+use mathlib.Core.Path.{ap, sym, _∙_, subst}
 use Prim.Native.Nat.{_<_}
 use lib.ListN.{getD}
 use Rattle.optimize.specs.declared.walk.Walk.{Walk}

@@ -1,7 +1,6 @@
 -- A node stays, is swapped, or a new constant is made for it.
 -- Assumes nothing.
 use borrow.Author.Needs.{needs}
-use native.Mathlib.Omega.{arith}
 use Rattle.optimize.proofs.Steps.{settled-stays, settled-swap, settled-make}
 use Rattle.optimize.specs.Counters.{walkIn, oneMade}
 use Rattle.optimize.proofs.CounterLaws.{stands, still-goes}

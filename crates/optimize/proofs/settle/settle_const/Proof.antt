@@ -1,7 +1,7 @@
 -- What foldConst says of the row is recorded.
 -- Assumes nothing.
 use borrow.Author.Needs.{needs}
-use mathlib.Core.Path.{_≡_, refl, ap, sym, _∙_}
+use mathlib.Core.Path.{_∙_}
 use native.Mathlib.Omega.{arith}
 use Rattle.optimize.proofs.settle.settle_const.Statement.{statement}
 use Rattle.optimize.proofs.settle.settle_const.Tie as tie

@@ -3,7 +3,7 @@
 use borrow.Author.Needs.{needs}
 use native.Mathlib.Omega.{arith}
 use Rattle.optimize.proofs.Steps.{ask-refused, ask-done}
-use mathlib.Core.Path.{_≡_, refl, ap, sym, _∙_}
+use mathlib.Core.Path.{ap, _∙_}
 use lib.ListN.{getD, length-set}
 use Rattle.tables.specs.declared.refusal.Refusal.{Refusal}
 use Rattle.optimize.specs.Process.{askedOf}

@@ -2,7 +2,7 @@
 -- Assumes nothing.
 use borrow.Author.Needs.{needs}
 use native.Mathlib.Omega.{arith}
-use Rattle.optimize.specs.View.{view, waysIn, Meets}
+use Rattle.optimize.specs.View.{view, Meets}
 use Rattle.optimize.specs.Process.{visitOf, processOf}
 use Rattle.optimize.specs.Laid.{Laid}
 use Rattle.optimize.proofs.Walks.{deep, mark-0, again-fresh}
