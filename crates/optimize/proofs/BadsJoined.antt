@@ -27,7 +27,7 @@ use Rattle.optimize.specs.Bads.{Spare, judgedOf}
 use Rattle.optimize.specs.Ending.{Ended}
 use Rattle.optimize.specs.Runs.{modelIn, modeIn, Runnable, Underway, Ends}
 use Rattle.optimize.proofs.Steps.{table-length}
-use Rattle.optimize.proofs.EndLaws.{kinds-kept}
+use Rattle.optimize.proofs.Keeps.{codes-known}
 use Rattle.optimize.proofs.RunLaws.{first-refused, later-refused, both-judged, entries-still, folded-is}
 
 -- ---- the outcome of a judged list
@@ -59,8 +59,7 @@ module _ (g dumps ss initial later ins reps : List ℕ) (minimise : Bool) (R S :
         sequentials = a;
         initial = b;
         later = c;
-        kinds = kinds-kept g dumps ins reps minimise Q (take at T) v laid;
-        known = u .runnable .known;
+        known = codes-known g dumps ins reps minimise Q (take at T) v laid;
       }
 
   pub model-of : ModelOf g ins reps (modelIn g dumps ss initial later ins reps)

@@ -40,7 +40,7 @@ use Rattle.tables.proofs.JudgeLaws.{row-words, rows-count}
 use Rattle.tables.proofs.NameLaws.{accepted-mark}
 use Rattle.optimize.specs.declared.walk.Optimized.{Optimized}
 use Rattle.optimize.specs.View.{countOf, wordOf}
-use Rattle.optimize.specs.Ending.{KindsKnown}
+use Rattle.optimize.specs.ResultView.{KindsKnown}
 use Rattle.optimize.specs.Runs.{Ends, Runs, modeIn}
 use Rattle.optimize.specs.CallWords.{between}
 use Rattle.optimize.specs.Entries.{answered, inputsEnd, repliesEnd, resultLeft, InOrder, partOf, modelParts, RunnableParts, Brought}

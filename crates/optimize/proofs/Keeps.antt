@@ -9,6 +9,7 @@ use lib.ListN.{length}
 use lib.Dec.{eqb}
 use Rattle.rules.specs.Lists.{put}
 use Rattle.rules.specs.Refusal.{done}
+use Rattle.rules.specs.Check.{knownSort}
 use Rattle.rules.specs.Table.{Kind, Write, Node, kindOf, kindCode, with, is}
 use Rattle.rules.specs.Room.{due, unpaid}
 use Rattle.rules.specs.Walk.{St, Mark, fresh, Held, setRow}
@@ -20,11 +21,11 @@ use Rattle.rules.proofs.Structure.{visit-went}
 use Rattle.optimize.specs.declared.walk.Walk.{Walk}
 use Rattle.optimize.specs.declared.walk.Visited as Answer
 use Rattle.optimize.specs.declared.form.Form.{Form}
-use Rattle.optimize.specs.View.{countOf, wordOf, nodeOf, Kept, tableOf, waysIn, rowsOf, markOf, questionOf, view}
+use Rattle.optimize.specs.View.{countOf, wordOf, nodeOf, Coded, rowOf, Kept, tableOf, waysIn, rowsOf, markOf, questionOf, view}
 use Rattle.optimize.specs.Folding.{Falls}
 use Rattle.optimize.specs.Process.{visitOf, formOf}
 use Rattle.optimize.specs.Laid.{Laid, Room, Visits}
-use Rattle.optimize.proofs.Views.{split, firsts-length, row-below}
+use Rattle.optimize.proofs.Views.{split, firsts-length, row-below, coded-sort}
 use Rattle.optimize.proofs.Steps.{table-length}
 use Rattle.optimize.proofs.Walks.{came-done, node-at}
 
@@ -67,13 +68,20 @@ module _ (g dumps inputs replies : List ℕ) (minimise : Bool) (R S : List ℕ) 
   unfolding view
   row-kept k b =
       let a = l .fine .shape .alike k (omega (arith, table-length g)) in
-      let r : nodeOf R k ≡ rowsOf (countOf g) (w .made) R k = sym (row-below (countOf g) (w .made) R k b) in
+      let r : rowOf R k ≡ rowsOf (countOf g) (w .made) R k = sym (row-below (countOf g) (w .made) R k b) in
       let n = node-at g k b in
       record {
         kind = ap (λ (nd : Node). nd .kind) r ∙ a .kind ∙ ap (λ (nd : Node). nd .kind) n;
         sort = ap (λ (nd : Node). nd .sort) r ∙ a .sort ∙ ap (λ (nd : Node). nd .sort) n;
         name = ap (λ (nd : Node). nd .name) r ∙ a .name ∙ ap (λ (nd : Node). nd .name) n;
       }
+
+  -- a legal node has a sort, so its row in the buffer still has the code of a kind
+  pub codes-known : (k : ℕ) → k < countOf g → Coded (wordOf R k 0)
+  codes-known k b =
+      let sorted : knownSort (wordOf g k 1) ≡ true =
+      ap (λ (nd : Node). knownSort (nd .sort)) (sym (node-at g k b)) ∙ l .legal k (omega (arith, table-length g)) .known in
+      coded-sort (wordOf R k 0) (wordOf R k 1) (λ e. no (sym (ap knownSort (sym (row-kept k b .sort) ∙ e)) ∙ sorted))
 
 -- a row put leaves the room
 pub room-row : (g R Q S : List ℕ) (w : Walk) (k : ℕ) → length Q ≡ length R → Room g R S w k → Room g Q S w k

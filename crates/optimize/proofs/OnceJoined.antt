@@ -35,7 +35,7 @@ use Rattle.optimize.proofs.Steps.{table-length}
 use Rattle.optimize.proofs.Views.{firsts-length}
 use Rattle.optimize.proofs.Begun.{view-front}
 use Rattle.optimize.proofs.BareLaws.{bareFolded, bare-same}
-use Rattle.optimize.proofs.EndLaws.{kinds-kept}
+use Rattle.optimize.proofs.Keeps.{codes-known}
 use Rattle.optimize.proofs.RunLaws.{entries-still, folded-is}
 use Rattle.optimize.proofs.BadsJoined.{lists-fit}
 use Rattle.optimize.proofs.Entries.{same-entry}
@@ -140,8 +140,7 @@ module _ (g dumps ss initial later ins reps : List ℕ) (minimise : Bool) (R S :
         sequentials = a;
         initial = b;
         later = c;
-        kinds = kinds-kept g dumps ins reps minimise Q (take at S₁) w₁ laid;
-        known = u .runnable .known;
+        known = codes-known g dumps ins reps minimise Q (take at S₁) w₁ laid;
       }
 
   module _ (σ : St) where

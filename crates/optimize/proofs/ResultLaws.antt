@@ -22,7 +22,7 @@ use Rattle.optimize.specs.ResultView.{listsAt, Finished, foldedIn, Model
 use Rattle.optimize.specs.declared.walk.Walk.{Walk}
 use Rattle.optimize.specs.declared.result.Kept.{Kept}
 use Rattle.optimize.specs.declared.result.Sizes.{Sizes}
-use Rattle.optimize.proofs.Views.{firsts-length, row-below, row-made}
+use Rattle.optimize.proofs.Views.{firsts-length, row-below, row-coded, row-made}
 
 -- ---- parts of a list
 -- a part, word by word
@@ -54,7 +54,7 @@ module _ (n made : ℕ) (R : List ℕ) where
       → nodeWords (rowsOf n made R (0 + j)) ≡ entriesOf R (1 + 6 * j) 6
   unfolding firsts
   row-words j h l known =
-      ap (λ i. nodeWords (rowsOf n made R i)) (zero-add j) ∙ ap nodeWords (row-below n made R j h)
+      ap (λ i. nodeWords (rowsOf n made R i)) (zero-add j) ∙ ap nodeWords (row-below n made R j h ∙ row-coded R j known)
       ∙ ap (λ x. x ∷ wordOf R j 1 ∷ wordOf R j 2 ∷ wordOf R j 3 ∷ wordOf R j 4 ∷ wordOf R j 5 ∷ []) known
       ∙ sym (words-at 6 (1 + 6 * j) R (omega arith))
 

@@ -7,47 +7,36 @@ use mathlib.Core.Option.{Option, none, some}
 use mathlib.Core.List.{List}
 use lib.ListN.{getD}
 use lib.Dec.{eqb}
-use borrow.Author.Tests.{lt-ltb, le-ltb, eq-eqb, ne-eqb}
-use Rattle.rules.specs.Table.{Const, Write, Node, constant, unknown, is}
+use borrow.Author.Tests.{eq-eqb, ne-eqb}
+use Rattle.rules.specs.Table.{Const, Write, Node, is}
 use Rattle.rules.specs.Fold.{constOf}
 use Rattle.rules.proofs.Base.{inside-or-past}
 use Rattle.tables.proofs.NodeLaws.{is-code}
-use Rattle.optimize.specs.View.{wordOf, nodeOf, rowsOf}
+use Rattle.optimize.specs.View.{wordOf, rowsOf}
+use Rattle.optimize.proofs.Views.{row-below, row-made, row-past}
 
 module _ (n made : ℕ) (R : List ℕ) (k : ℕ) where
-  pub row-below : k < n → rowsOf n made R k ≡ nodeOf R k
-  unfolding rowsOf
-  row-below h = rw (rowsOf, lt-ltb k n h)
-
-  pub row-made : n ≤ k → k - n < 2 + made → rowsOf n made R k ≡ constant (getD R (2 + 6 * n + 2 * (k - n)) 0) (getD R (2 + 6 * n + 2 * (k - n) + 1) 0)
-  unfolding rowsOf
-  row-made h l = rw (rowsOf, le-ltb k n h, lt-ltb (k - n) (2 + made) l)
-
-  pub row-past : n ≤ k → 2 + made ≤ k - n → rowsOf n made R k ≡ unknown
-  unfolding rowsOf
-  row-past h l = rw (rowsOf, le-ltb k n h, le-ltb (k - n) (2 + made) l)
-
   -- ---- Consts
   row-const : k < n → is Const (rowsOf n made R k) ≡ eqb (wordOf R k 0) 1
-  row-const l = ap (is Const) (row-below l) ∙ is-code 1 refl refl (wordOf R k 0)
+  row-const l = ap (is Const) (row-below n made R k l) ∙ is-code 1 refl refl (wordOf R k 0)
 
   pub constant-row : k < n → wordOf R k 0 ≡ 1 → (x : ℕ) → x ≡ wordOf R k 2 → some x ≡ constOf (rowsOf n made R) k
   constant-row l e x d =
-      ap some (d ∙ sym (ap (λ (nd : Node). nd .a) (row-below l)))
+      ap some (d ∙ sym (ap (λ (nd : Node). nd .a) (row-below n made R k l)))
       ∙ sym (ap (λ b. elim b [ true ↦ some (rowsOf n made R k .a) | false ↦ none ]) (row-const l ∙ eq-eqb (wordOf R k 0) 1 e))
 
   pub constant-no-row : k < n → (wordOf R k 0 ≡ 1 → ⊥) → none ≡ constOf (rowsOf n made R) k
   constant-no-row l e = sym (ap (λ b. elim b [ true ↦ some (rowsOf n made R k .a) | false ↦ none ]) (row-const l ∙ ne-eqb (wordOf R k 0) 1 e))
 
   pub constant-made : n ≤ k → k - n < 2 + made → some (getD R (2 + 6 * n + 2 * (k - n) + 1) 0) ≡ constOf (rowsOf n made R) k
-  constant-made l e = sym (ap (λ (nd : Node). constOf (λ _. nd) k) (row-made l e))
+  constant-made l e = sym (ap (λ (nd : Node). constOf (λ _. nd) k) (row-made n made R k l e))
 
   pub constant-none : n ≤ k → 2 + made ≤ k - n → none ≡ constOf (rowsOf n made R) k
-  constant-none l e = sym (ap (λ (nd : Node). constOf (λ _. nd) k) (row-past l e))
+  constant-none l e = sym (ap (λ (nd : Node). constOf (λ _. nd) k) (row-past n made R k l e))
 
   -- ---- Writes
   row-write : k < n → is Write (rowsOf n made R k) ≡ eqb (wordOf R k 0) 3
-  row-write l = ap (is Write) (row-below l) ∙ is-code 3 refl refl (wordOf R k 0)
+  row-write l = ap (is Write) (row-below n made R k l) ∙ is-code 3 refl refl (wordOf R k 0)
 
   pub write-row : k < n → wordOf R k 0 ≡ 3 → is Write (rowsOf n made R k) ≡ true
   write-row l e = row-write l ∙ eq-eqb (wordOf R k 0) 3 e
@@ -57,4 +46,4 @@ module _ (n made : ℕ) (R : List ℕ) (k : ℕ) where
 
   pub no-write-past : n ≤ k → is Write (rowsOf n made R k) ≡ false
   no-write-past l =
-      inside-or-past (is Write (rowsOf n made R k) ≡ false) (k - n) (2 + made) (λ h. ap (is Write) (row-made l h)) (λ h. ap (is Write) (row-past l h))
+      inside-or-past (is Write (rowsOf n made R k) ≡ false) (k - n) (2 + made) (λ h. ap (is Write) (row-made n made R k l h)) (λ h. ap (is Write) (row-past n made R k l h))

@@ -28,7 +28,7 @@ use Rattle.optimize.proofs.RunLaws.{visit-refused, visits-done}
 
 module _ (g dumps ss initial later ins reps : List ℕ) (r s : ℕ) (u : Runnable g dumps ss initial later ins reps r s) where
   pub run-ready : Ready g r s
-  run-ready = record { counted = omega (arith, u .whole); few = u .small; whole = u .whole; room = omega (arith, u .room); scratch = omega (arith, u .scratch) }
+  run-ready = record { known = u .known; counted = omega (arith, u .whole); few = u .small; whole = u .whole; room = omega (arith, u .room); scratch = omega (arith, u .scratch) }
 
   pub run-table : Table g
   run-table = record { legal = u .legal .nodes; small = u .small; whole = u .whole }

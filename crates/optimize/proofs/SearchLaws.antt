@@ -23,7 +23,8 @@ use Rattle.optimize.specs.View.{wordOf, rowsOf}
 use Rattle.optimize.specs.Folding.{Falls, lookIs, LooksAt}
 use Rattle.optimize.specs.declared.memory.Look.{Look}
 use Rattle.optimize.specs.declared.memory.Look.the-variants.{End, Hit, Settled, Unsettled}
-use Rattle.optimize.proofs.RowLaws.{row-below, write-row, no-write-row, no-write-past}
+use Rattle.optimize.proofs.Views.{row-below}
+use Rattle.optimize.proofs.RowLaws.{write-row, no-write-row, no-write-past}
 
 -- ---- rows of the rules' walk fall
 pub points-fall : (t : List Node) (n made : ℕ) (R : List ℕ) → length t ≡ n → Points t (rowsOf n made R) made → Falls n made R

@@ -13,12 +13,13 @@ use Rattle.rules.specs.Table.{Node, constant, unknown}
 use Rattle.rules.specs.Walk.{Mark, fresh, startRows, start}
 use Rattle.rules.proofs.Base.{inside-or-past}
 use Rattle.optimize.specs.View.{countOf, nodeOf, firsts, tableOf, rowsOf, markOf, view}
-use Rattle.optimize.specs.ResultView.{Ready, untouched}
-use Rattle.optimize.proofs.Views.{firsts-at, node-same, row-below, row-made, row-past}
+use Rattle.optimize.specs.ResultView.{KindsKnown, Ready, untouched}
+use Rattle.optimize.proofs.Views.{firsts-at, row-same, row-coded, row-below, row-made, row-past}
 use Rattle.optimize.proofs.Steps.{table-length}
 
 -- what set_up wrote: the given words, and the shared constants after the word for their count
 pub record SetUp (g R : List ℕ) : Type 0 where
+  pub known : KindsKnown g
   pub rows : (i : ℕ) → i < 1 + 6 * countOf g → getD R i 0 ≡ getD g i 0
   pub falseSort : getD R (2 + 6 * countOf g) 0 ≡ 1
   pub falseNumber : getD R (2 + 6 * countOf g + 1) 0 ≡ 0
@@ -30,7 +31,8 @@ module _ (g R : List ℕ) (s : SetUp g R) where
   unfolding tableOf
   row-given k h =
       row-below (countOf g) 0 R k h
-      ∙ (node-same R g k (λ j l. s .rows (1 + 6 * k + j) (omega arith))
+      ∙ (row-same R g k (λ j l. s .rows (1 + 6 * k + j) (omega arith))
+      ∙ row-coded g k (s .known k h)
       ∙ sym (List·getD-append (tableOf g) (constant 1 0 ∷ constant 1 1 ∷ []) unknown k (omega (arith, table-length g)) ∙ firsts-at (countOf g) (nodeOf g) unknown k h))
 
   row-constant : (j x y p : ℕ) → j < 2 → getD R p 0 ≡ x → getD R (p + 1) 0 ≡ y → p ≡ 2 + 6 * countOf g + 2 * j → rowsOf (countOf g) 0 R (countOf g + j) ≡ constant x y
@@ -94,7 +96,7 @@ stored-at l p vs h j b =
 abbrev pub stores : ℕ → List ℕ → List ℕ
 stores p l = set (set (set (set l p 1) (p + 1) 0) (p + 2) 1) (p + 3) 1
 
-module _ (g R : List ℕ) (fits : 1 + 6 * countOf g ≤ length g) (room : 6 + 6 * countOf g ≤ length R) where
+module _ (g R : List ℕ) (known : KindsKnown g) (fits : 1 + 6 * countOf g ≤ length g) (room : 6 + 6 * countOf g ≤ length R) where
   abbrev copied : List ℕ
   copied = paste R 0 (drop 0 g) (1 + 6 * countOf g)
 
@@ -118,6 +120,7 @@ module _ (g R : List ℕ) (fits : 1 + 6 * countOf g ≤ length g) (room : 6 + 6 
       rw same
       (record {
         rows = λ i l. stored-before copied p vs h i (omega arith) ∙ copied-at i l;
+        known = known;
         falseSort = ap (λ k. getD (sets copied p vs) k 0) (sym (add-zero p)) ∙ stored-at copied p vs h 0 (omega arith);
         falseNumber = stored-at copied p vs h 1 (omega arith);
         trueSort = stored-at copied p vs h 2 (omega arith);
@@ -130,4 +133,4 @@ pub set-up-left : (g R Q S P : List ℕ) (k : ℕ) → Ready g (length R) (lengt
 set-up-left g R Q S P k r q e t inputs replies =
     let l : length (take k S) ≡ k = length-take-le k S (omega arith) in
     rw (q, t)
-    (view-start g (stores (2 + 6 * countOf g) (paste R 0 (drop 0 g) (1 + 6 * countOf g))) (length (take k S)) (drop k S) inputs replies (stored g R (r .whole) (omega arith)) (omega arith))
+    (view-start g (stores (2 + 6 * countOf g) (paste R 0 (drop 0 g) (1 + 6 * countOf g))) (length (take k S)) (drop k S) inputs replies (stored g R (r .known) (r .whole) (omega arith)) (omega arith))

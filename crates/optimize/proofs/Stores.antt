@@ -15,8 +15,8 @@ use Rattle.rules.specs.Table.{Kind, Const, Input, Node, kinds, kindOf, kindCode
 use Rattle.rules.specs.Walk.{Held, setRow, setMark, addConst}
 use Rattle.rules.specs.Fold.{constOf}
 use Rattle.optimize.specs.declared.walk.Walk.{Walk}
-use Rattle.optimize.specs.View.{countOf, wordOf, nodeOf, Kept, rowsOf, markBy, view}
-use Rattle.optimize.proofs.Views.{rows-pushed, rows-put, marks-put, asked-same, row-below, row-made, row-past}
+use Rattle.optimize.specs.View.{countOf, wordOf, nodeOf, sortBy, rowOf, Kept, markBy, view}
+use Rattle.optimize.proofs.Views.{sort-same, rows-pushed, rows-put, marks-put, asked-same}
 
 module _ (h : List Held) (g inputs replies R S : List ℕ) (w : Walk) where
   pub pushed : (n s x : ℕ) → n ≡ countOf g → 2 + 6 * n + 2 * (2 + w .made) + 1 < length R
@@ -59,8 +59,10 @@ module _ (h : List Held) (g inputs replies R S : List ℕ) (w : Walk) where
       let Q : List ℕ = set O (e + 4) z in
       let other : (i : ℕ) → (i ≡ e + 2 → ⊥) → (i ≡ e + 3 → ⊥) → (i ≡ e + 4 → ⊥) → getD Q i 0 ≡ getD R i 0 =
       λ i p q r. getD-set-other O (e + 4) i z 0 r ∙ getD-set-other P (e + 3) i y 0 q ∙ getD-set-other R (e + 2) i x 0 p in
-      let s0 : kindOf (wordOf Q k 0) ≡ kindOf (wordOf g k 0) = ap kindOf (other (e + 0) (λ q. omega arith) (λ q. omega arith) (λ q. omega arith)) ∙ kept .kind in
-      let s1 : wordOf Q k 1 ≡ wordOf g k 1 = other (e + 1) (λ q. omega arith) (λ q. omega arith) (λ q. omega arith) ∙ kept .sort in
+      let q0 : wordOf Q k 0 ≡ wordOf R k 0 = other (e + 0) (λ q. omega arith) (λ q. omega arith) (λ q. omega arith) in
+      let q1 : wordOf Q k 1 ≡ wordOf R k 1 = other (e + 1) (λ q. omega arith) (λ q. omega arith) (λ q. omega arith) in
+      let s0 : kindOf (wordOf Q k 0) ≡ kindOf (wordOf g k 0) = ap kindOf q0 ∙ kept .kind in
+      let s1 : sortBy (wordOf Q k 0) (wordOf Q k 1) ≡ wordOf g k 1 = sort-same (wordOf Q k 0) (wordOf R k 0) (wordOf Q k 1) (wordOf R k 1) q0 q1 ∙ kept .sort in
       let s2 : wordOf Q k 2 ≡ a =
       getD-set-other O (e + 4) (e + 2) z 0 (λ q. omega arith)
       ∙ getD-set-other P (e + 3) (e + 2) y 0 (λ q. omega arith)
@@ -69,7 +71,7 @@ module _ (h : List Held) (g inputs replies R S : List ℕ) (w : Walk) where
       let s3 : wordOf Q k 3 ≡ b = getD-set-other O (e + 4) (e + 3) z 0 (λ q. omega arith) ∙ getD-set-same P (e + 3) y 0 (simp length-set (omega arith)) ∙ ey in
       let s4 : wordOf Q k 4 ≡ c = getD-set-same O (e + 4) z 0 (simp length-set (omega arith)) ∙ ez in
       let s5 : wordOf Q k 5 ≡ wordOf g k 5 = other (e + 5) (λ q. omega arith) (λ q. omega arith) (λ q. omega arith) ∙ kept .name in
-      let here : nodeOf Q k ≡ with (nodeOf g k) a b c = cc in
+      let here : rowOf Q k ≡ with (nodeOf g k) a b c = cc in
       rw (rows-put (countOf g) (w .made) R Q k (with (nodeOf g k) a b c) l (λ i d. other i (λ q. d (omega arith) (omega arith)) (λ q. d (omega arith) (omega arith)) (λ q. d (omega arith) (omega arith))) here)
 
 -- two stores below a place leave what stands from there on
@@ -107,16 +109,3 @@ const-yes nd e = sym (ap (λ b. elim b [ true ↦ some (nd .a) | false ↦ none 
 
 pub const-not : (nd : Node) → is Const nd ≡ false → none ≡ constAs nd
 const-not nd e = sym (ap (λ b. elim b [ true ↦ some (nd .a) | false ↦ none ]) e)
-
-module _ (n m : ℕ) (R : List ℕ) (at : ℕ) where
-  pub constant-row : at < n → wordOf R at 0 ≡ 1 → (x : ℕ) → x ≡ wordOf R at 2 → some x ≡ constOf (rowsOf n m R) at
-  constant-row l e x d = ap some d ∙ const-yes (nodeOf R at) (is-const (wordOf R at 0) e (nodeOf R at) refl) ∙ sym (ap constAs (row-below n m R at l))
-
-  pub constant-no-row : at < n → (wordOf R at 0 ≡ 1 → ⊥) → none ≡ constOf (rowsOf n m R) at
-  constant-no-row l e = const-not (nodeOf R at) (no-const (wordOf R at 0) e (nodeOf R at) refl) ∙ sym (ap constAs (row-below n m R at l))
-
-  pub constant-made : n ≤ at → at - n < 2 + m → some (getD R (2 + 6 * n + 2 * (at - n) + 1) 0) ≡ constOf (rowsOf n m R) at
-  constant-made l e = sym (ap constAs (row-made n m R at l e))
-
-  pub constant-none : n ≤ at → 2 + m ≤ at - n → none ≡ constOf (rowsOf n m R) at
-  constant-none l e = sym (ap constAs (row-past n m R at l e))

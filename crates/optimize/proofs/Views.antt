@@ -10,12 +10,12 @@ use lib.Dec.{ltb, eqb, lit<}
 use lib.ListN.{length, getD, set, length-set, length-append, List·getD-append}
 use lib.Seq.{getD-set-same, getD-set-other, getD-append-seam}
 use borrow.Author.Tests.{ltb-true, ltb-false, eqb-true, eqb-false, lt-ltb, le-ltb, eq-eqb}
-use Rattle.rules.specs.Table.{Node, constant, unknown}
+use Rattle.rules.specs.Table.{Node, kindOf, kindCode, constant, unknown}
 use Rattle.rules.specs.Lists.{put}
 use Rattle.rules.specs.Walk.{fresh}
 use Rattle.rules.specs.Questions.{question}
 use Rattle.rules.proofs.Base.{put-other}
-use Rattle.optimize.specs.View.{wordOf, nodeOf, firsts, rowsOf, markBy, markOf, questionOf}
+use Rattle.optimize.specs.View.{wordOf, nodeOf, Coded, sortBy, rowOf, firsts, rowsOf, markBy, markOf, questionOf}
 
 pub split : {P : Type 0} (k n : ℕ) → (k < n → P) → (n ≤ k → P) → P
 split {P} k n f g = go (ltb k n) refl
@@ -59,7 +59,7 @@ firsts-at (suc c) f d i h =
 
 -- ---- rows
 module _ (n m : ℕ) (R : List ℕ) (k : ℕ) where
-  pub row-below : k < n → rowsOf n m R k ≡ nodeOf R k
+  pub row-below : k < n → rowsOf n m R k ≡ rowOf R k
   unfolding rowsOf
   row-below h = rw (rowsOf, lt-ltb k n h)
 
@@ -73,6 +73,29 @@ module _ (n m : ℕ) (R : List ℕ) (k : ℕ) where
 
 pub node-same : (Q R : List ℕ) (k : ℕ) → ((j : ℕ) → j < 6 → wordOf Q k j ≡ wordOf R k j) → nodeOf Q k ≡ nodeOf R k
 node-same Q R k h = cc (h 0 (lit< tt), h 1 (lit< tt), h 2 (lit< tt), h 3 (lit< tt), h 4 (lit< tt), h 5 (lit< tt))
+
+pub sort-same : (c c′ s s′ : ℕ) → c ≡ c′ → s ≡ s′ → sortBy c s ≡ sortBy c′ s′
+sort-same c c′ s s′ e f = ap₂ sortBy e f
+
+pub row-same : (Q R : List ℕ) (k : ℕ) → ((j : ℕ) → j < 6 → wordOf Q k j ≡ wordOf R k j) → rowOf Q k ≡ rowOf R k
+row-same Q R k h =
+    let s = sort-same (wordOf Q k 0) (wordOf R k 0) (wordOf Q k 1) (wordOf R k 1) (h 0 (lit< tt)) (h 1 (lit< tt)) in
+    cc (h 0 (lit< tt), s, h 2 (lit< tt), h 3 (lit< tt), h 4 (lit< tt), h 5 (lit< tt))
+
+-- where the first word is the code of a kind, the sort is the second
+pub sort-coded : (c s : ℕ) → Coded c → sortBy c s ≡ s
+sort-coded c s e = ap (λ b. cond b s 0) (eq-eqb (kindCode (kindOf c)) c e)
+
+pub row-coded : (R : List ℕ) (k : ℕ) → Coded (wordOf R k 0) → rowOf R k ≡ nodeOf R k
+row-coded R k e =
+    ap (λ s. record { kind = kindOf (wordOf R k 0); sort = s; a = wordOf R k 2; b = wordOf R k 3; c = wordOf R k 4; name = wordOf R k 5 }) (sort-coded (wordOf R k 0) (wordOf R k 1) e)
+
+pub coded-sort : (c s : ℕ) → (sortBy c s ≡ 0 → ⊥) → Coded c
+coded-sort c s h = go (eqb (kindCode (kindOf c)) c) refl
+  where
+    go : (b : Bool) → eqb (kindCode (kindOf c)) c ≡ b → Coded c
+    go true e = eqb-true (kindCode (kindOf c)) c e
+    go false e = absurd (h (ap (λ b. cond b s 0) e))
 
 -- the words of a constant that was made before
 made-same : (n m k : ℕ) (Q R : List ℕ) → n ≤ k → k - n < 2 + m → ((i : ℕ) → 1 + 6 * n < i → i < 2 + 6 * n + 2 * (2 + m) → getD Q i 0 ≡ getD R i 0)
@@ -91,7 +114,7 @@ module _ (n m : ℕ) (R Q : List ℕ) (s x : ℕ)
   row-kept : (k : ℕ) → (k ≡ n + 2 + m → ⊥) → rowsOf n (m + 1) Q k ≡ rowsOf n m R k
   row-kept k d =
       split k n
-      (λ l. row-below n (m + 1) Q k l ∙ node-same Q R k (λ j h. before (1 + 6 * k + j) (omega arith)) ∙ sym (row-below n m R k l))
+      (λ l. row-below n (m + 1) Q k l ∙ row-same Q R k (λ j h. before (1 + 6 * k + j) (omega arith)) ∙ sym (row-below n m R k l))
       (λ l.
       split (k - n) (2 + m)
       (λ h. row-made n (m + 1) Q k l (omega arith) ∙ made-same n m k Q R l h (λ i _ j. before i j) ∙ sym (row-made n m R k l h))
@@ -105,11 +128,11 @@ module _ (n m : ℕ) (R Q : List ℕ) (s x : ℕ)
 
 -- another row at k
 module _ (n m : ℕ) (R Q : List ℕ) (k : ℕ) (nd : Node) (l : k < n)
-    (others : (i : ℕ) → (1 + 6 * k ≤ i → i < 7 + 6 * k → ⊥) → getD Q i 0 ≡ getD R i 0) (here : nodeOf Q k ≡ nd) where
+    (others : (i : ℕ) → (1 + 6 * k ≤ i → i < 7 + 6 * k → ⊥) → getD Q i 0 ≡ getD R i 0) (here : rowOf Q k ≡ nd) where
   row-other : (j : ℕ) → (j ≡ k → ⊥) → rowsOf n m Q j ≡ rowsOf n m R j
   row-other j d =
       split j n
-      (λ h. row-below n m Q j h ∙ node-same Q R j (λ i q. others (1 + 6 * j + i) (λ a b. d (omega arith))) ∙ sym (row-below n m R j h))
+      (λ h. row-below n m Q j h ∙ row-same Q R j (λ i q. others (1 + 6 * j + i) (λ a b. d (omega arith))) ∙ sym (row-below n m R j h))
       (λ h.
       split (j - n) (2 + m)
       (λ q. row-made n m Q j h q ∙ made-same n m j Q R h q (λ i a _. others i (λ _ b. omega arith)) ∙ sym (row-made n m R j h q))

@@ -8,12 +8,11 @@ use mathlib.Core.Path.{_≡_}
 use mathlib.Core.List.{List, [], _∷_, _++_}
 use lib.ListN.{length, take, drop, replicate}
 use Rattle.rules.specs.Limits.{need}
-use Rattle.rules.specs.Table.{kindOf, kindCode}
 use Rattle.rules.specs.Model.{Model}
 use Rattle.rules.specs.Walk.{Held}
 use Rattle.rules.specs.Whole.{Folded}
 use Rattle.rules.specs.Result.{listed}
-use Rattle.optimize.specs.View.{countOf, wordOf, view}
+use Rattle.optimize.specs.View.{countOf, wordOf, Coded, view}
 use Rattle.optimize.specs.Lists.{entriesOf}
 use Rattle.optimize.specs.declared.walk.Walk.{Walk}
 use Rattle.optimize.specs.declared.result.Kept.{Kept}
@@ -21,7 +20,12 @@ use Rattle.optimize.specs.declared.result.Sizes.{Sizes}
 
 -- ---- before the walk
 -- a table of so many nodes is there, and both buffers (of lengths r and s) have room for one without lists
+-- each given code is that of a kind
+abbrev pub KindsKnown : List ℕ → Type 0
+KindsKnown g = (v : ℕ) → v < countOf g → Coded (wordOf g v 0)
+
 pub record Ready (g : List ℕ) (r s : ℕ) : Type 0 where
+  pub known : KindsKnown g
   pub counted : 0 < length g
   pub few : countOf g ≤ 4096
   pub whole : 1 + 6 * countOf g ≤ length g
@@ -48,7 +52,7 @@ pub record Finished (g inputs R S : List ℕ) (w : Walk) (k : Kept) (z : Sizes) 
   pub sequentials : k .sequentials ≤ z .sequentials
   pub initial : k .initial ≤ z .initial
   pub later : k .later ≤ z .later
-  pub known : (v : ℕ) → v < countOf g → kindCode (kindOf (wordOf R v 0)) ≡ wordOf R v 0
+  pub known : (v : ℕ) → v < countOf g → Coded (wordOf R v 0)
 
 -- the fold that lies in the buffers; the states that took an input (h) and the bads dropped (d) lie in none
 unfoldable pub foldedIn : List Held → List ℕ → List ℕ → List ℕ → List ℕ → List ℕ → List ℕ → Walk → Kept → Sizes → ℕ → Folded

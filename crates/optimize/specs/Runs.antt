@@ -18,9 +18,8 @@ use Rattle.rules.specs.Result.{resultWords}
 use Rattle.tables.specs.Refusals.{refusalOf}
 use Rattle.optimize.specs.declared.walk.Optimized.{Optimized}
 use Rattle.optimize.specs.View.{countOf, tableOf}
-use Rattle.optimize.specs.ResultView.{listsAt, Handed}
+use Rattle.optimize.specs.ResultView.{KindsKnown, listsAt, Handed}
 use Rattle.optimize.specs.declared.walk.Walk.{Walk}
-use Rattle.optimize.specs.Ending.{KindsKnown}
 use Rattle.optimize.specs.Laid.{Laid}
 use Rattle.optimize.specs.Bads.{Spare}
 

@@ -6,14 +6,14 @@
 -- Assumes nothing.
 use Prim.Native.Nat.{ℕ, zero, suc, _+_, _-_, _*_}
 use mathlib.Core.Path.{_≡_}
-use mathlib.Core.Bool.{Bool, true, false}
+use mathlib.Core.Bool.{Bool, true, false, cond}
 use mathlib.Core.Option.{Option, none, some}
 use mathlib.Core.List.{List, [], _∷_, _++_}
 use lib.ListN.{length, getD, drop}
 use lib.Dec.{ltb, eqb}
 use Rattle.btor.specs.Operators.{rust}
 use Rattle.rules.specs.Refusal.{Out, refused, done}
-use Rattle.rules.specs.Table.{Node, kindOf, constant, unknown}
+use Rattle.rules.specs.Table.{Node, kindOf, kindCode, constant, unknown}
 use Rattle.rules.specs.Walk.{St, Mark, fresh, kept, replaced, Question, Held}
 use Rattle.rules.specs.Fold.{Fold, stays, swap, make}
 use Rattle.rules.specs.Questions.{question}
@@ -45,11 +45,23 @@ wordOf g v k = getD g (1 + 6 * v + k) 0
 abbrev pub nodeOf : List ℕ → ℕ → Node
 nodeOf g v = record { kind = kindOf (wordOf g v 0); sort = wordOf g v 1; a = wordOf g v 2; b = wordOf g v 3; c = wordOf g v 4; name = wordOf g v 5 }
 
+-- a word is the code of a kind
+abbrev pub Coded : ℕ → Type 0
+Coded c = kindCode (kindOf c) ≡ c
+
+-- row v of a buffer; it has a sort only where its first word is the code of a kind
+abbrev pub sortBy : ℕ → ℕ → ℕ
+sortBy code s = cond (eqb (kindCode (kindOf code)) code) s 0
+
+abbrev pub rowOf : List ℕ → ℕ → Node
+rowOf R v =
+    record { kind = kindOf (wordOf R v 0); sort = sortBy (wordOf R v 0) (wordOf R v 1); a = wordOf R v 2; b = wordOf R v 3; c = wordOf R v 4; name = wordOf R v 5 }
+
 -- row v of a buffer has the given kind, sort and name
 pub record Kept (g R : List ℕ) (v : ℕ) : Type 0 where
-  pub kind : kindOf (wordOf R v 0) ≡ kindOf (wordOf g v 0)
-  pub sort : wordOf R v 1 ≡ wordOf g v 1
-  pub name : wordOf R v 5 ≡ wordOf g v 5
+  pub kind : rowOf R v .kind ≡ nodeOf g v .kind
+  pub sort : rowOf R v .sort ≡ nodeOf g v .sort
+  pub name : rowOf R v .name ≡ nodeOf g v .name
 
 -- the first c values of f
 unfoldable pub firsts : {A : Type 0} → ℕ → (ℕ → A) → List A
@@ -67,7 +79,7 @@ waysIn dumps minimise replies = record { dump = λ k. eqb (getD dumps k 0) 1; mi
 unfoldable pub rowsOf : ℕ → ℕ → List ℕ → ℕ → Node
 rowsOf n made R k =
     elim (ltb k n) [
-      | true ↦ nodeOf R k
+      | true ↦ rowOf R k
       | false ↦ elim (ltb (k - n) (2 + made)) [
         | true ↦ constant (getD R (2 + 6 * n + 2 * (k - n)) 0) (getD R (2 + 6 * n + 2 * (k - n) + 1) 0)
         | false ↦ unknown

@@ -1,24 +1,21 @@
-// The end of a run: the counters and the kind codes of the rows are made sure of, then the result is written.
-// None of it changes the state that lies in the buffers.
-use crate::buffers::node_count;
+// The end of a run: the counters are made sure of, which does not change the state that lies in the buffers, and the result is written.
 use crate::call_words::inputs_in;
 use crate::call_words::replies_in;
 use crate::result::Kept;
 use crate::result::Sizes;
 use crate::result::write_result;
 use crate::walk::Walk;
-ghost use Prim.Native.Nat.{ℕ, _+_, _*_, _<_, _≤_};
+ghost use Prim.Native.Nat.{ℕ, _≤_};
 ghost use mathlib.Core.Path.{_≡_};
 ghost use mathlib.Core.List.{List, flatten};
 ghost use lib.ListN.{length, drop};
 ghost use Rattle.rules.specs.Model.{Model};
 ghost use Rattle.rules.specs.Walk.{Held};
 ghost use Rattle.rules.specs.Result.{resultWords};
-ghost use Rattle.optimize.specs.View.{countOf, wordOf, view};
+ghost use Rattle.optimize.specs.View.{view};
 ghost use Rattle.optimize.specs.ResultView.{foldedIn, ModelOf, Handed};
-ghost use Rattle.optimize.specs.Ending.{KindsKept, Ended};
+ghost use Rattle.optimize.specs.Ending.{Ended};
 ghost use Rattle.optimize.specs.CallWords.{inputsIn, repliesIn};
-ghost use Rattle.optimize.specs.declared.walk.Walk.{Walk};
 
 // The smaller of a count and the length of a list: the same entries of the list are left.
 fn at_most(count: usize, most: usize) -> usize
@@ -49,21 +46,6 @@ fn counted(walk: Walk, inputs: &[u64], replies: &[u64]) -> Walk
     }
 }
 
-// Puts the given kind code back into each row.
-fn restore_kinds(given: &[u64], result: &mut [u64])
-    requires { ⌜ (countOf (now given) ≤ 4096) × (1 + 6 * countOf (now given) ≤ length (now given)) × (1 + 6 * countOf (now given) ≤ length (now result)) ⌝ }
-    requires { ⌜ KindsKept (now given) (now result) ⌝ }
-    ensures { λ _. ⌜ ((h : List Held) (inputs replies S : List ℕ) (w : Walk) → view h (now (given .entry)) inputs replies (now (result .exit)) S w ≡ view h (now (given .entry)) inputs replies (now (result .entry)) S w) ⌝ }
-    ensures { λ _. ⌜ ((v : ℕ) → v < countOf (now (given .entry)) → wordOf (now (result .exit)) v 0 ≡ wordOf (now (given .entry)) v 0) ⌝ }
-{
-    let n = node_count(given);
-    let mut i = 0;
-    while i < n {
-        result[1 + 6 * i] = given[1 + 6 * i];
-        i += 1;
-    }
-}
-
 // Writes the result of a run, as the walk left it. Answers how many words it has.
 fn write_run(
     given: &[u64],
@@ -80,7 +62,6 @@ fn write_run(
     ensures { λ r. ⌜ ((h : List Held) (d : List ℕ) (m : Model) → ModelOf (now (given .entry)) (now (inputs .entry)) (now (replies .entry)) m → Handed (flatten (resultWords m (foldedIn h d (now (given .entry)) (now (inputs .entry)) (now (replies .entry)) (now (result .entry)) (now (scratch .entry)) walk kept sizes verdict))) (length (now (result .entry))) (now (result .exit)) r) ⌝ }
 {
     let sure = counted(walk, inputs, replies);
-    restore_kinds(given, result);
     write_result(given, inputs, result, scratch, sure, kept, sizes, verdict)
 }
 

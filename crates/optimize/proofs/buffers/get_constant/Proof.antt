@@ -2,7 +2,7 @@
 -- Assumes nothing.
 use borrow.Author.Needs.{needs}
 use native.Mathlib.Omega.{arith}
-use Rattle.optimize.proofs.Stores.{constant-row, constant-no-row, constant-made, constant-none}
+use Rattle.optimize.proofs.RowLaws.{constant-row, constant-no-row, constant-made, constant-none}
 use Rattle.optimize.proofs.buffers.get_constant.Statement.{statement}
 use Rattle.optimize.proofs.buffers.get_constant.Tie as tie
 
