@@ -9,8 +9,8 @@
  *   - Each pointer is aligned for its elements (8 bytes for words) and not null, also where its length is 0.
  *   - result, scratch and out overlap no other buffer of the call. words, names and substitute may overlap one another.
  *   - No other thread writes to a buffer during the call, or reads result, scratch or out. Calls on other buffers may run at the same time.
- *   - The stack has room. A node is visited by visiting its operands, so each node of a chain takes stack: 352 bytes, of whatever kind
- *     (measured; rust/examples/stack.rs), 1.4 MiB for the longest chain, of 4,096 nodes, so a fresh thread of 2 MiB is enough. The Rust
+ *   - The stack has room. A node is visited by visiting its operands, so each node of a chain takes stack: 192 bytes, of whatever kind
+ *     (measured; rust/examples/stack.rs), 0.8 MiB for the longest chain, of 4,096 nodes, so a fresh thread of 2 MiB is enough. The Rust
  *     crate gives 1,024 bytes for each node of the table and 64 KiB besides, 4.1 MiB for 4,096 nodes. Labels need no such room.
  *
  * No call keeps a pointer, allocates, or reads or writes anything else. Each call ends.

@@ -3,7 +3,7 @@
 use crate::ffi;
 use crate::refusal::Refusal;
 
-/// The stack given for each node of a table, in bytes. A chain of whatever kind was measured to take 352 a node (examples/stack.rs).
+/// The stack given for each node of a table, in bytes. A chain of whatever kind was measured to take 192 a node (examples/stack.rs).
 pub const STACK_PER_NODE: usize = 1024;
 
 /// The stack given besides, in bytes.

@@ -22,8 +22,8 @@
 //!
 //! # Stack
 //!
-//! The library visits a node by visiting its operands, so each node of a chain takes stack: 352 bytes, of whatever kind (measured:
-//! `cargo run --release --example stack`). The longest chain, of 4,096 nodes, takes 1.4 MiB, so a fresh thread of 2 MiB is enough, but what
+//! The library visits a node by visiting its operands, so each node of a chain takes stack: 192 bytes, of whatever kind (measured:
+//! `cargo run --release --example stack`). The longest chain, of 4,096 nodes, takes 0.8 MiB, so a fresh thread of 2 MiB is enough, but what
 //! a caller has left of its own is not known. Every function of this crate that folds therefore starts a thread of its own with
 //! [`stack_for`] bytes: a fold does not overflow, whatever stack its caller has. [`here`] has the same calls without that thread, for a
 //! caller who has seen to the stack.
