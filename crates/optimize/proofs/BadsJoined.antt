@@ -3,11 +3,10 @@
 use Prim.Native.Nat.{ℕ, _+_, _*_, _<_, _≤_}
 use mathlib.Core.Path.{_≡_, refl, sym, ap, _∙_, subst}
 use mathlib.Core.Bool.{Bool, true, false}
-use mathlib.Core.List.{List, [], _++_, flatten}
+use mathlib.Core.List.{List, _++_, flatten}
 use native.Mathlib.Omega.{arith}
 use lib.ListN.{length, getD, take, length-take}
 use Rattle.rules.specs.Refusal.{Out, refused, done}
-use Rattle.rules.specs.Limits.{need}
 use Rattle.rules.specs.Walk.{St, Held}
 use Rattle.rules.specs.Model.{Model, Mode}
 use Rattle.rules.specs.Whole.{Bads, bads, Folded, foldBads}
@@ -18,14 +17,13 @@ use Rattle.optimize.specs.declared.walk.Walk.{Walk}
 use Rattle.optimize.specs.declared.walk.Optimized.{Optimized}
 use Rattle.optimize.specs.declared.bads.Judged.{Judged}
 use Rattle.optimize.specs.declared.result.Kept.{Kept}
-use Rattle.optimize.specs.declared.result.Sizes.{Sizes}
-use Rattle.optimize.specs.View.{countOf, tableOf, view}
-use Rattle.optimize.specs.ResultView.{listsAt, foldedIn, Handed, ModelOf}
+use Rattle.optimize.specs.View.{countOf, view}
+use Rattle.optimize.specs.ResultView.{foldedIn, Handed, ModelOf}
 use Rattle.optimize.specs.Lists.{entriesOf}
 use Rattle.optimize.specs.Laid.{Laid}
 use Rattle.optimize.specs.Bads.{Spare, judgedOf}
 use Rattle.optimize.specs.Ending.{Ended}
-use Rattle.optimize.specs.Runs.{modelIn, modeIn, Runnable, Underway, Ends}
+use Rattle.optimize.specs.Runs.{modelIn, modeIn, Underway, Ends}
 use Rattle.optimize.proofs.Steps.{table-length}
 use Rattle.optimize.proofs.Keeps.{codes-known}
 use Rattle.optimize.proofs.RunLaws.{first-refused, later-refused, both-judged, entries-still, folded-is}

@@ -5,7 +5,7 @@ use mathlib.Core.Path.{_≡_, ap, sym, _∙_, subst}
 use mathlib.Core.Bool.{Bool}
 use mathlib.Core.List.{List, [], flatten}
 use native.Mathlib.Omega.{arith}
-use lib.ListN.{length, take, drop, length-drop}
+use lib.ListN.{length, take, drop, length-drop, drop-of-length-le}
 use lib.Seq.{take-all, take-nil}
 use Rattle.rules.specs.Walk.{Held}
 use Rattle.rules.specs.Model.{Model, Mode}
@@ -22,7 +22,6 @@ use Rattle.optimize.specs.Bads.{retainedOf, badRule}
 use Rattle.optimize.specs.LastQuestion.{answeredOf, forgotten}
 use Rattle.optimize.specs.ResultView.{ModelOf, foldedIn, Handed}
 use Rattle.optimize.specs.CallWords.{between}
-use Rattle.optimize.proofs.Steps.{drop-past}
 
 module _ (ws : List ℕ) (from to : ℕ) where
   pub between-none : to < from → [] ≡ between ws from to
@@ -31,7 +30,7 @@ module _ (ws : List ℕ) (from to : ℕ) where
       sym (ap (λ n. take n (drop from ws)) z)
 
   pub between-past : length ws < from → [] ≡ between ws from to
-  between-past l = sym (ap (take (to - from)) (drop-past from ws (omega arith)) ∙ take-nil (to - from))
+  between-past l = sym (ap (take (to - from)) (drop-of-length-le ws {i = from} (omega arith)) ∙ take-nil (to - from))
 
   pub between-rest : length ws < to → between ws from (length ws) ≡ between ws from to
   between-rest l =

@@ -1,23 +1,23 @@
 -- Lists in scratch: what an entry put there and a mark set before it leave, and how a list is judged and visited entry by entry.
 -- Assumes nothing.
 use Prim.Native.Nat.{ℕ, zero, suc, _+_, _-_, _*_, _<_, _≤_}
-use mathlib.Core.Path.{_≡_, refl, ap, ap₂, sym, _∙_, subst}
+use mathlib.Core.Path.{_≡_, refl, ap, ap₂, sym, _∙_}
 use mathlib.Core.Bool.{Bool, true, false, not, _||_}
-use mathlib.Core.Option.{Option, none, some}
+use mathlib.Core.Option.{none, some}
 use mathlib.Core.List.{List, [], _∷_, _++_, append-assoc, append-nil}
 use native.Mathlib.Numerals.{add-one}
 use native.Mathlib.Omega.{arith}
-use lib.ListN.{length, getD, take, drop, set, length-drop, length-take, drop-of-length-le}
+use lib.ListN.{length, getD, take, drop, set, length-drop, drop-of-length-le}
 use lib.Dec.{eqb}
 use lib.Seq.{getD-set-other, getD-take, getD-drop, drop-set-add, take-suc-set, drop-drop, drop-cons, length-take-le}
 use borrow.Author.Tests.{eq-eqb, ne-eqb}
 use Rattle.rules.specs.Lists.{All}
 use Rattle.rules.specs.Refusal.{Out, refused, done, _>>=_}
 use Rattle.rules.specs.Table.{Next, Node, nodeAt, kindOf}
-use Rattle.rules.specs.Legal.{AllLegal, Sequential}
+use Rattle.rules.specs.Legal.{Sequential}
 use Rattle.rules.specs.Walk.{St, Held, replaced, setMark}
 use Rattle.rules.specs.Fold.{constOf}
-use Rattle.rules.specs.Visit.{Ways, visit, visitTop}
+use Rattle.rules.specs.Visit.{Ways, visit}
 use Rattle.rules.specs.Whole.{sameConst, trivial, dropNext, judgeSequentials, visitAll}
 use Rattle.rules.proofs.Legal.{legal-as, state-ok}
 use Rattle.tables.specs.declared.refusal.Refusal.{Refusal}
@@ -25,12 +25,12 @@ use Rattle.tables.specs.Refusals.{refusalOf}
 use Rattle.optimize.specs.declared.walk.Walk.{Walk}
 use Rattle.optimize.specs.declared.walk.Visited.{Visited}
 use Rattle.optimize.specs.declared.walk.Walked.{Walked}
-use Rattle.optimize.specs.View.{countOf, wordOf, nodeOf, tableOf, waysIn, markBy, view, outcomeOf, Meets}
+use Rattle.optimize.specs.View.{countOf, wordOf, tableOf, waysIn, markBy, view, outcomeOf, Meets}
 use Rattle.optimize.specs.Process.{visitOf}
 use Rattle.optimize.specs.Laid.{Laid}
 use Rattle.optimize.specs.Lists.{Table, entriesOf, joined, walkedOf}
 use Rattle.optimize.proofs.Views.{marks-same, asked-same}
-use Rattle.optimize.proofs.Stores.{constAs, const-yes, const-not, is-const, no-const}
+use Rattle.optimize.proofs.RowLaws.{constant-here, constant-not-here}
 use Rattle.optimize.proofs.Steps.{table-length}
 use Rattle.optimize.proofs.Walks.{node-at, came-done}
 use Rattle.optimize.proofs.Keeps.{laid-on}
@@ -93,11 +93,14 @@ module _ (S P : List ℕ) (at k : ℕ) (e : k ≡ at) (l : at ≤ length S) (q :
 
 -- ---- the table as given
 module _ (g : List ℕ) (node : ℕ) (l : node < countOf g) where
+  given-kind : nodeAt (tableOf g) node .kind ≡ kindOf (wordOf g node 0)
+  given-kind = ap (λ (nd : Node). nd .kind) (node-at g node l)
+
   pub given-constant : wordOf g node 0 ≡ 1 → (x : ℕ) → x ≡ wordOf g node 2 → some x ≡ constOf (nodeAt (tableOf g)) node
-  given-constant e x d = ap some d ∙ const-yes (nodeOf g node) (is-const (wordOf g node 0) e (nodeOf g node) refl) ∙ sym (ap constAs (node-at g node l))
+  given-constant e x d = constant-here (nodeAt (tableOf g)) node (wordOf g node 0) given-kind e x (d ∙ sym (ap (λ (nd : Node). nd .a) (node-at g node l)))
 
   pub given-none : (wordOf g node 0 ≡ 1 → ⊥) → none ≡ constOf (nodeAt (tableOf g)) node
-  given-none e = const-not (nodeOf g node) (no-const (wordOf g node 0) e (nodeOf g node) refl) ∙ sym (ap constAs (node-at g node l))
+  given-none e = constant-not-here (nodeAt (tableOf g)) node (wordOf g node 0) given-kind e
 
 -- a listed sequential, its state, that state's init and the next value are nodes of the table
 pub record Inside (g : List ℕ) (s : ℕ) : Type 0 where

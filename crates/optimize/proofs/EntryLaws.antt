@@ -30,7 +30,7 @@ use Rattle.rules.proofs.Call.{judged-as-given}
 use Rattle.rules.proofs.Check.{accepted}
 use Rattle.rules.proofs.Judged.{outcome-is}
 use Rattle.tables.specs.Refusals.{refusalOf}
-use Rattle.tables.specs.SectionAnswers.{sectionsIn, wordsIn}
+use Rattle.tables.specs.SectionAnswers.{sectionsIn, wordsIn, Inside}
 use Rattle.tables.specs.NameAnswers.{dumpMark}
 use Rattle.tables.specs.Judging.{rowsIn, IsCut, callWith, judgedCount, verdictOf}
 use Rattle.tables.specs.declared.refusal.Refusal as tables
@@ -43,7 +43,7 @@ use Rattle.optimize.specs.View.{countOf, wordOf}
 use Rattle.optimize.specs.ResultView.{KindsKnown}
 use Rattle.optimize.specs.Runs.{Ends, Runs, modeIn}
 use Rattle.optimize.specs.CallWords.{between}
-use Rattle.optimize.specs.Entries.{answered, inputsEnd, repliesEnd, resultLeft, InOrder, partOf, modelParts, RunnableParts, Brought}
+use Rattle.optimize.specs.Entries.{answered, inputsEnd, repliesEnd, resultLeft, InOrder, partOf, modelParts, RunnableParts}
 use Rattle.optimize.proofs.Given.{count-is, table-is, part-is}
 use Rattle.optimize.proofs.Judged.{Passed, judged-passed}
 
@@ -119,14 +119,6 @@ module _ (ws : List ℕ) (s : Sections) (h : IsCut ws s) where
       go impl = same-model _ _ _ _ _ _ _ _ _ _ _ _ _ _ (table-is ws s h) d at-2 at-3 at-4 (inputs-are impl) (replies-are impl)
       go withSolver = same-model _ _ _ _ _ _ _ _ _ _ _ _ _ _ (table-is ws s h) d at-2 at-3 at-4 (inputs-are withSolver) (replies-are withSolver)
       go withInput = same-model _ _ _ _ _ _ _ _ _ _ _ _ _ _ (table-is ws s h) d at-2 at-3 at-4 (inputs-are withInput) (replies-are withInput)
-
-  pub parts-lie : (e : Entry) → Brought ws s (inputsEnd e (s .inputs)) (repliesEnd e (s .replies))
-  parts-lie impl =
-      record { inside = h .inside; inputs-start = omega (arith, h .inside .inputs .ends); inputs-end = h .inside .inputs .within; replies-start = omega (arith, h .inside .replies .ends); replies-end = h .inside .replies .within }
-  parts-lie withSolver =
-      record { inside = h .inside; inputs-start = omega arith; inputs-end = omega (arith, h .inside .inputs .ends, h .inside .inputs .within); replies-start = omega (arith, h .inside .replies .ends); replies-end = h .inside .replies .within }
-  parts-lie withInput =
-      record { inside = h .inside; inputs-start = omega (arith, h .inside .inputs .ends); inputs-end = h .inside .inputs .within; replies-start = omega arith; replies-end = omega (arith, h .inside .replies .ends, h .inside .replies .within) }
 
   inputs-fewer : (e : Entry) → length (between ws (s .inputs .start) (inputsEnd e (s .inputs))) ≤ length (wordsIn ws 1 (s .inputs))
   inputs-fewer e = let q = ap length (inputs-are e) in omega (arith, q, go e)
@@ -239,8 +231,8 @@ module _ (call : Call) (s : Sections) (p : InOrder call s) (dumps : List ℕ) (m
 
   -- the same for the ends as the code has them
   module _ (e : Entry) (i r : ℕ) (p₅ : i ≡ inputsEnd e (s .inputs)) (p₆ : r ≡ repliesEnd e (s .replies)) where
-    pub parts-ready : Brought (call .words) s i r × RunnableParts (call .words) dumps s i r (call .resultRoom) (call .scratchRoom)
-    parts-ready = rw (p₅, p₆) (parts-lie (call .words) s (p .is-cut) e, runnable e)
+    pub parts-ready : Inside (call .words) s × RunnableParts (call .words) dumps s i r (call .resultRoom) (call .scratchRoom)
+    parts-ready = rw (p₅, p₆) (p .is-cut .inside, runnable e)
 
     pub parts-left : (o : Optimized) (Q : List ℕ) → length Q ≡ call .resultRoom → Runs (modelParts (call .words) dumps s i r) (modeOf (call .mode)) (call .resultRoom) o Q
         → (answered o ≡ left house e call .answer) × (resultLeft o Q ≡ left house e call .result)

@@ -7,7 +7,7 @@ use mathlib.Core.Option.{Option}
 use mathlib.Core.List.{List, [], _∷_, _++_}
 use native.Mathlib.Numerals.{add-one}
 use native.Mathlib.Omega.{arith}
-use lib.ListN.{length, getD, drop}
+use lib.ListN.{length, getD, drop, drop-of-length-le, List·getD-eq-default}
 use lib.Dec.{eqb, ltb}
 use lib.Seq.{drop-cons}
 use borrow.Author.Tests.{eq-eqb, ne-eqb, ltb-true, ltb-false}
@@ -30,7 +30,7 @@ use Rattle.optimize.specs.View.{countOf, wordOf, nodeOf, tableOf, rowsOf
 use Rattle.optimize.specs.Folding.{foldTwo, asksBit, valueIs, searchIs}
 use Rattle.optimize.specs.Process.{isStays, isRead, hasReplacement, thenAsk, settleThen, bitOf, takeOf, afterOne, afterTwo, foldedTwo, afterIte}
 use Rattle.optimize.proofs.Views.{mark-below}
-use Rattle.optimize.proofs.Steps.{table-length, drop-past}
+use Rattle.optimize.proofs.Steps.{table-length}
 use Rattle.optimize.proofs.Asks.{is-stay, chain-bit-more, chain-two}
 
 -- ---- finishing
@@ -145,7 +145,7 @@ module _ (h : List Held) (g inputs replies R S : List ℕ) (w : Walk) where
   inputs-are = refl
 
   pub inputs-none : length inputs ≤ w .taken → view h g inputs replies R S w .inputs ≡ []
-  inputs-none l = inputs-are ∙ drop-past (w .taken) inputs l
+  inputs-none l = inputs-are ∙ drop-of-length-le inputs l
 
   pub inputs-some : w .taken < length inputs → view h g inputs replies R S w .inputs ≡ getD inputs (w .taken) 0 ∷ drop (suc (w .taken)) inputs
   inputs-some l = inputs-are ∙ drop-cons inputs (w .taken) 0 l
@@ -158,10 +158,7 @@ module _ (h : List Held) (g inputs replies R S : List ℕ) (w : Walk) where
   took k r = rw (add-one (w .taken))
 
 pub dump-past : (ds : List ℕ) (name : ℕ) → length ds ≤ name → eqb (getD ds name 0) 1 ≡ false
-dump-past [] zero l = refl
-dump-past [] (suc name) l = refl
-dump-past (d ∷ ds) zero l = let o : ⊥ = omega arith in absurd o
-dump-past (d ∷ ds) (suc name) l = dump-past ds name (omega arith)
+dump-past ds name l = ap (λ x. eqb x 1) (List·getD-eq-default ds 0 {n = name} l)
 
 -- ---- the questions of an Ite
 module _ (g : List ℕ) (ways : Ways) (k : ℕ) (σ : St) (x y z : ℕ) (m : ways .minimise ≡ true) where

@@ -21,7 +21,7 @@ use Rattle.rules.proofs.Structure.{visit-went}
 use Rattle.optimize.specs.declared.walk.Walk.{Walk}
 use Rattle.optimize.specs.declared.walk.Visited as Answer
 use Rattle.optimize.specs.declared.form.Form.{Form}
-use Rattle.optimize.specs.View.{countOf, wordOf, nodeOf, Coded, rowOf, Kept, tableOf, waysIn, rowsOf, markOf, questionOf, view}
+use Rattle.optimize.specs.View.{countOf, wordOf, nodeOf, Coded, rowOf, RowKept, tableOf, waysIn, rowsOf, markOf, questionOf, view}
 use Rattle.optimize.specs.Folding.{Falls}
 use Rattle.optimize.specs.Process.{visitOf, formOf}
 use Rattle.optimize.specs.Laid.{Laid, Room, Visits}
@@ -64,7 +64,7 @@ module _ (g dumps inputs replies : List ℕ) (minimise : Bool) (R S : List ℕ) 
       let p = points (tableOf g) (rowsOf (countOf g) (w .made) R) (w .made) (markOf (countOf g) S) (l .fine .shape) (l .legal) in
       record { memory = λ m b e i. p .memory m e (omega (arith, table-length g)) }
 
-  pub row-kept : (k : ℕ) → k < countOf g → Kept g R k
+  pub row-kept : (k : ℕ) → k < countOf g → RowKept g R k
   unfolding view
   row-kept k b =
       let a = l .fine .shape .alike k (omega (arith, table-length g)) in
@@ -171,7 +171,7 @@ module _ (g dumps inputs replies : List ℕ) (minimise : Bool) (R S : List ℕ) 
   pub ready-falls : Ready g dumps inputs replies minimise R S w n → Falls (countOf g) (w .made) R
   ready-falls r = falls g dumps inputs replies minimise R S w (r .laid)
 
-  pub ready-kept : Ready g dumps inputs replies minimise R S w n → Kept g R n
+  pub ready-kept : Ready g dumps inputs replies minimise R S w n → RowKept g R n
   ready-kept r = row-kept g dumps inputs replies minimise R S w (r .laid) n (r .inside)
 
   -- a visit of a node below n that is done leaves n ready

@@ -1,15 +1,14 @@
 -- Laws for a whole run: the buffers are laid for the visits and then for the bads, and the outcome is the rules' fold.
 -- Assumes nothing.
-use Prim.Native.Nat.{ℕ, _+_, _*_, _<_, _≤_}
-use mathlib.Core.Path.{_≡_, refl, sym, ap, _∙_, subst}
-use mathlib.Core.Bool.{Bool, true, false}
+use Prim.Native.Nat.{ℕ, _+_, _<_, _≤_}
+use mathlib.Core.Path.{_≡_, sym, ap, _∙_, subst}
+use mathlib.Core.Bool.{Bool}
 use mathlib.Core.List.{List, []}
 use native.Mathlib.Omega.{arith}
-use lib.ListN.{length, take, drop, length-take}
+use lib.ListN.{length, take, drop}
 use lib.Seq.{length-take-le}
 use Rattle.rules.specs.Lists.{All}
-use Rattle.rules.specs.Refusal.{Out, refused, done}
-use Rattle.rules.specs.Limits.{need}
+use Rattle.rules.specs.Refusal.{Out, done}
 use Rattle.rules.specs.Model.{Model, Mode}
 use Rattle.rules.specs.Walk.{St, Held, start}
 use Rattle.rules.specs.Whole.{Folded, judgeSequentials, visitAll, foldBads, fold}

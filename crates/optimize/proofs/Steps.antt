@@ -1,11 +1,11 @@
 -- Settling a node and putting a question: what the buffers hold afterwards is the rules' outcome.
 -- Assumes nothing.
-use Prim.Native.Nat.{ℕ, zero, suc, _+_, _-_, _*_, _<_, _≤_}
-use mathlib.Core.Path.{_≡_, refl, ap, sym, _∙_}
-use mathlib.Core.List.{List, [], _∷_}
+use Prim.Native.Nat.{ℕ, _+_, _-_, _*_, _<_, _≤_}
+use mathlib.Core.Path.{_≡_, refl}
+use mathlib.Core.List.{List, []}
 use native.Mathlib.Numerals.{add-one}
 use native.Mathlib.Omega.{arith}
-use lib.ListN.{length, getD, drop, length-drop}
+use lib.ListN.{length, getD, drop, length-drop, drop-of-length-le}
 use lib.Seq.{drop-cons}
 use borrow.Author.Tests.{le-leb, lt-leb}
 use Rattle.rules.specs.Walk.{Held, setMark, addConst}
@@ -48,26 +48,17 @@ module _ (h : List Held) (g inputs replies R S T : List ℕ) (w : Walk) (ways : 
   settled-make Q w′ n s x e i a m = rw (e, m, a, i, table-length g, made-is h g inputs replies R S w)
 
 -- ---- asking
-pub drop-past : (u : ℕ) (l : List ℕ) → length l ≤ u → drop u l ≡ []
-drop-past u [] h = drop-nil u
-  where
-    drop-nil : (u : ℕ) → drop {A = ℕ} u [] ≡ []
-    drop-nil zero = refl
-    drop-nil (suc u) = refl
-drop-past zero (x ∷ l) h = let o : ⊥ = omega arith in absurd o
-drop-past (suc u) (x ∷ l) h = drop-past u l (omega arith)
-
 pub first-of : (u : ℕ) (l : List ℕ) → u < length l → getD l u 0 ≡ firstReply (drop u l)
 first-of u l h = rw (drop-cons l u 0 h)
 
 pub first-none : (u : ℕ) (l : List ℕ) → length l ≤ u → 0 ≡ firstReply (drop u l)
-first-none u l h = rw (drop-past u l h)
+first-none u l h = rw (drop-of-length-le l h)
 
 pub rest-of : (u : ℕ) (l : List ℕ) → u < length l → drop (u + 1) l ≡ otherReplies (drop u l)
 rest-of u l h = rw (drop-cons l u 0 h, add-one u)
 
 pub rest-none : (u : ℕ) (l : List ℕ) → length l ≤ u → drop u l ≡ otherReplies (drop u l)
-rest-none u l h = rw (drop-past u l h)
+rest-none u l h = rw (drop-of-length-le l h)
 
 module _ (h : List Held) (g inputs replies R S : List ℕ) (w : Walk) (q x y r m : ℕ) (er : r ≡ firstReply (drop (w .used) replies)) (em : m ≡ most q) where
   pub ask-refused : m < r → w .used < length replies

@@ -1,21 +1,16 @@
--- What each store of buffers.rt makes of the state that lies in the buffers, and what a read of a constant finds there.
+-- What each store of buffers.rt makes of the state that lies in the buffers.
 -- Assumes nothing.
-use Prim.Native.Nat.{ℕ, zero, suc, _+_, _-_, _*_, _<_, _≤_}
-use mathlib.Core.Path.{_≡_, refl, ap, sym, _∙_}
-use mathlib.Core.Bool.{true, false}
-use mathlib.Core.Option.{Option, none, some}
-use mathlib.Core.List.{List, [], _∷_}
+use Prim.Native.Nat.{ℕ, _+_, _-_, _*_, _<_}
+use mathlib.Core.Path.{_≡_, ap, _∙_}
+use mathlib.Core.List.{List}
 use native.Mathlib.Numerals.{add-one}
 use native.Mathlib.Omega.{arith}
 use lib.ListN.{length, getD, drop, set, length-set}
-use lib.Dec.{eqb}
 use lib.Seq.{getD-set-same, getD-set-other, drop-set-lt}
-use Rattle.rules.specs.Lists.{All}
-use Rattle.rules.specs.Table.{Kind, Const, Input, Node, kinds, kindOf, kindCode, with, is}
+use Rattle.rules.specs.Table.{kindOf, with}
 use Rattle.rules.specs.Walk.{Held, setRow, setMark, addConst}
-use Rattle.rules.specs.Fold.{constOf}
 use Rattle.optimize.specs.declared.walk.Walk.{Walk}
-use Rattle.optimize.specs.View.{countOf, wordOf, nodeOf, sortBy, rowOf, Kept, markBy, view}
+use Rattle.optimize.specs.View.{countOf, wordOf, nodeOf, sortBy, rowOf, RowKept, markBy, view}
 use Rattle.optimize.proofs.Views.{sort-same, rows-pushed, rows-put, marks-put, asked-same}
 
 module _ (h : List Held) (g inputs replies R S : List ℕ) (w : Walk) where
@@ -49,7 +44,7 @@ module _ (h : List Held) (g inputs replies R S : List ℕ) (w : Walk) where
         asked-same (countOf g) (w .asked) S T (λ j a b. getD-set-other (set S k m) (countOf g + k) j r 0 (λ q. omega arith) ∙ getD-set-other S k j m 0 (λ q. omega arith)),
       )
 
-  pub rowed : (k x y z a b c : ℕ) → k < countOf g → 6 + 6 * k < length R → Kept g R k → x ≡ a → y ≡ b → z ≡ c
+  pub rowed : (k x y z a b c : ℕ) → k < countOf g → 6 + 6 * k < length R → RowKept g R k → x ≡ a → y ≡ b → z ≡ c
       → view h g inputs replies (set (set (set R (1 + 6 * k + 2) x) (1 + 6 * k + 3) y) (1 + 6 * k + 4) z) S w ≡ setRow (view h g inputs replies R S w) k (with (nodeOf g k) a b c)
   unfolding view
   rowed k x y z a b c l room kept ex ey ez =
@@ -77,35 +72,3 @@ module _ (h : List Held) (g inputs replies R S : List ℕ) (w : Walk) where
 -- two stores below a place leave what stands from there on
 pub two-sets : (n : ℕ) (S : List ℕ) (i j x y : ℕ) → i < n → j < n → drop n (set (set S i x) j y) ≡ drop n S
 two-sets n S i j x y a b = drop-set-lt n (set S i x) j y b ∙ drop-set-lt n S i x a
-
--- ---- constants
--- a kind has Const's code only at code 1
-abbrev NoConst : Kind → Type 0
-NoConst K = eqb (kindCode K) 1 ≡ false
-
-const-later : (i : ℕ) (Ks : List Kind) → All NoConst Ks → NoConst (getD Ks i Input)
-const-later i [] a = refl
-const-later zero (K ∷ Ks) a = a .0
-const-later (suc i) (K ∷ Ks) a = const-later i Ks (a .1)
-
-const-code : (c : ℕ) → (c ≡ 1 → ⊥) → NoConst (kindOf c)
-const-code zero h = refl
-const-code (suc zero) h = absurd (h refl)
-const-code (suc (suc c)) h =
-    const-later c (drop 1 kinds) (refl, (refl, (refl, (refl, (refl, (refl, (refl, (refl, (refl, (refl, (refl, (refl, (refl, (refl, (refl, (refl, (refl, (refl, (refl, (refl, (refl, tt)))))))))))))))))))))
-
-pub no-const : (c : ℕ) → (c ≡ 1 → ⊥) → (nd : Node) → nd .kind ≡ kindOf c → is Const nd ≡ false
-no-const c h nd e = ap (λ K. eqb (kindCode K) 1) e ∙ const-code c h
-
-pub is-const : (c : ℕ) → c ≡ 1 → (nd : Node) → nd .kind ≡ kindOf c → is Const nd ≡ true
-is-const c e nd d = ap (λ K. eqb (kindCode K) 1) (d ∙ ap kindOf e)
-
--- the number of a row that is a constant
-abbrev pub constAs : Node → Option ℕ
-constAs nd = elim (is Const nd) [ true ↦ some (nd .a) | false ↦ none ]
-
-pub const-yes : (nd : Node) → is Const nd ≡ true → some (nd .a) ≡ constAs nd
-const-yes nd e = sym (ap (λ b. elim b [ true ↦ some (nd .a) | false ↦ none ]) e)
-
-pub const-not : (nd : Node) → is Const nd ≡ false → none ≡ constAs nd
-const-not nd e = sym (ap (λ b. elim b [ true ↦ some (nd .a) | false ↦ none ]) e)

@@ -71,9 +71,6 @@ module _ (n m : ℕ) (R : List ℕ) (k : ℕ) where
   unfolding rowsOf
   row-past h l = rw (rowsOf, le-ltb k n h, le-ltb (k - n) (2 + m) l)
 
-pub node-same : (Q R : List ℕ) (k : ℕ) → ((j : ℕ) → j < 6 → wordOf Q k j ≡ wordOf R k j) → nodeOf Q k ≡ nodeOf R k
-node-same Q R k h = cc (h 0 (lit< tt), h 1 (lit< tt), h 2 (lit< tt), h 3 (lit< tt), h 4 (lit< tt), h 5 (lit< tt))
-
 pub sort-same : (c c′ s s′ : ℕ) → c ≡ c′ → s ≡ s′ → sortBy c s ≡ sortBy c′ s′
 sort-same c c′ s s′ e f = ap₂ sortBy e f
 

@@ -1,7 +1,7 @@
 -- What an entry point is and answers, in the rules' terms.
 --     entryIs, answered       the entry and the answer        inputsEnd, repliesEnd    what an entry brings of the words
 --     resultLeft              the result buffer at the end    InOrder                  a call that `judge` accepted
---     modelParts, RunnableParts, Brought    the parts of the words that are folded
+--     modelParts, RunnableParts    the parts of the words that are folded
 -- Assumes nothing.
 use Prim.Native.Nat.{ℕ, _≤_}
 use mathlib.Core.Path.{_≡_}
@@ -12,7 +12,7 @@ use Rattle.rules.specs.Limits.{house}
 use Rattle.rules.specs.Model.{Model}
 use Rattle.rules.specs.Call as rules
 use Rattle.tables.specs.Refusals.{refusalOf}
-use Rattle.tables.specs.SectionAnswers.{sectionsIn, Inside}
+use Rattle.tables.specs.SectionAnswers.{sectionsIn}
 use Rattle.tables.specs.Judging.{IsCut}
 use Rattle.tables.specs.declared.sections.Part.{Part}
 use Rattle.tables.specs.declared.sections.Sections.{Sections}
@@ -65,11 +65,3 @@ modelParts ws dumps s i r = modelIn ws dumps (partOf ws (s .sequentials)) (partO
 unfoldable pub RunnableParts : List ℕ → List ℕ → Sections → ℕ → ℕ → ℕ → ℕ → Type 0
 RunnableParts ws dumps s i r room scratch =
     Runnable ws dumps (partOf ws (s .sequentials)) (partOf ws (s .initial)) (partOf ws (s .later)) (between ws (s .inputs .start) i) (between ws (s .replies .start) r) room scratch
-
--- the parts lie in the words
-pub record Brought (ws : List ℕ) (s : Sections) (i r : ℕ) : Type 0 where
-  pub inside : Inside ws s
-  pub inputs-start : s .inputs .start ≤ i
-  pub inputs-end : i ≤ length ws
-  pub replies-start : s .replies .start ≤ r
-  pub replies-end : r ≤ length ws

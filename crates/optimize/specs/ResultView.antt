@@ -6,7 +6,7 @@
 use Prim.Native.Nat.{ℕ, _+_, _-_, _*_, _<_, _≤_}
 use mathlib.Core.Path.{_≡_}
 use mathlib.Core.List.{List, [], _∷_, _++_}
-use lib.ListN.{length, take, drop, replicate}
+use lib.ListN.{length, take, replicate}
 use Rattle.rules.specs.Limits.{need}
 use Rattle.rules.specs.Model.{Model}
 use Rattle.rules.specs.Walk.{Held}
@@ -19,11 +19,11 @@ use Rattle.optimize.specs.declared.result.Kept.{Kept}
 use Rattle.optimize.specs.declared.result.Sizes.{Sizes}
 
 -- ---- before the walk
--- a table of so many nodes is there, and both buffers (of lengths r and s) have room for one without lists
 -- each given code is that of a kind
 abbrev pub KindsKnown : List ℕ → Type 0
 KindsKnown g = (v : ℕ) → v < countOf g → Coded (wordOf g v 0)
 
+-- a table of so many nodes is there, its kinds known, and both buffers (of lengths r and s) have room for one without lists
 pub record Ready (g : List ℕ) (r s : ℕ) : Type 0 where
   pub known : KindsKnown g
   pub counted : 0 < length g

@@ -58,7 +58,7 @@ rowOf R v =
     record { kind = kindOf (wordOf R v 0); sort = sortBy (wordOf R v 0) (wordOf R v 1); a = wordOf R v 2; b = wordOf R v 3; c = wordOf R v 4; name = wordOf R v 5 }
 
 -- row v of a buffer has the given kind, sort and name
-pub record Kept (g R : List ℕ) (v : ℕ) : Type 0 where
+pub record RowKept (g R : List ℕ) (v : ℕ) : Type 0 where
   pub kind : rowOf R v .kind ≡ nodeOf g v .kind
   pub sort : rowOf R v .sort ≡ nodeOf g v .sort
   pub name : rowOf R v .name ≡ nodeOf g v .name

@@ -14,8 +14,8 @@ use crate::walk::Walk;
 use tables::refusal::Refusal;
 ghost use Prim.Native.Nat.{ℕ, _+_, _*_, _<_, _≤_};
 ghost use mathlib.Core.Path.{_≡_};
-ghost use mathlib.Core.Bool.{Bool, cond};
-ghost use mathlib.Core.List.{List, [], _∷_, _++_};
+ghost use mathlib.Core.Bool.{Bool};
+ghost use mathlib.Core.List.{List};
 ghost use lib.ListN.{length, take, drop};
 ghost use Rattle.rules.specs.Lists.{All};
 ghost use Rattle.rules.specs.Legal.{BadEntry};
@@ -24,7 +24,6 @@ ghost use Rattle.rules.specs.Fold.{isConst};
 ghost use Rattle.rules.specs.Visit.{Ways};
 ghost use Rattle.optimize.specs.View.{countOf, tableOf, waysIn, constantIs, view};
 ghost use Rattle.optimize.specs.CallWords.{inputsIn, repliesIn, minimiseIn, waysBy, LaidBy};
-ghost use Rattle.optimize.specs.Lists.{entriesOf};
 ghost use Rattle.optimize.specs.Bads.{Spare, retainedOf, judgedOf, replyRule, badRule, retainRule, listRule, Retains, KeptIf, BadsLeft};
 
 // How a list of bads is judged: whether the solver is asked, whether a reachable bad is refused, and the list's section.

@@ -11,7 +11,7 @@ ghost use Rattle.rules.specs.Table.{kindOf, with};
 ghost use Rattle.rules.specs.Walk.{Held, setRow, setMark, addConst};
 ghost use Rattle.rules.specs.Fold.{constOf};
 ghost use Rattle.tables.specs.NodeAnswers.{kindIs};
-ghost use Rattle.optimize.specs.View.{constantIs, countOf, wordOf, nodeOf, Kept, rowsOf, markBy, view};
+ghost use Rattle.optimize.specs.View.{constantIs, countOf, wordOf, nodeOf, RowKept, rowsOf, markBy, view};
 ghost use Rattle.optimize.specs.Counters.{walkIn, withWalk, oneMade};
 ghost use Rattle.optimize.specs.declared.walk.Walk.{Walk};
 
@@ -108,7 +108,7 @@ pub(crate) fn push(
 pub(crate) fn put_row(given: &[u64], result: &mut [u64], node: usize, a: usize, b: usize, c: usize)
     requires { ⌜ (node < countOf (now given)) × (countOf (now given) ≤ 4096) ⌝ }
     requires { ⌜ 1 + 6 * countOf (now given) ≤ length (now result) ⌝ }
-    requires { ⌜ Kept (now given) (now result) node ⌝ }
+    requires { ⌜ RowKept (now given) (now result) node ⌝ }
     ensures { λ _. ⌜ ((h : List Held) (inputs replies S : List ℕ) (w : Walk) → view h (now (given .entry)) inputs replies (now (result .exit)) S w ≡ setRow (view h (now (given .entry)) inputs replies (now (result .entry)) S w) node (with (nodeOf (now (given .entry)) node) a b c)) ⌝ }
 {
     let at = 1 + 6 * node;

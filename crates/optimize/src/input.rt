@@ -5,8 +5,7 @@ use crate::counters::refuse;
 use crate::counters::took_one;
 use crate::fold::Folded;
 use crate::settle::settle;
-use btor::node_type::CodedSort;
-use btor::node_type::NodeType;
+use tables::node::fits_sort;
 use tables::refusal::Refusal;
 ghost use Prim.Native.Nat.{ℕ};
 ghost use mathlib.Core.Path.{_≡_};
@@ -14,22 +13,11 @@ ghost use mathlib.Core.Bool.{Bool};
 ghost use mathlib.Core.List.{List};
 ghost use lib.ListN.{getD};
 ghost use lib.Dec.{eqb};
-ghost use Rattle.rules.specs.Table.{fits};
 ghost use Rattle.rules.specs.Walk.{Held};
 ghost use Rattle.optimize.specs.View.{view, waysIn, Meets};
 ghost use Rattle.optimize.specs.Process.{takeOf};
 ghost use Rattle.optimize.specs.Laid.{Room};
 ghost use Rattle.optimize.specs.Counters.{walkIn, Going, answerIn};
-
-// Whether a number fits the width of a sort.
-fn fits_sort(sort: u64, number: u64) -> bool
-    ensures { λ r. ⌜ r ≡ fits sort number ⌝ }
-{
-    match NodeType::from_code(sort) {
-        CodedSort::Known(known) => number <= known.ones(),
-        CodedSort::Unknown => number == 0,
-    }
-}
 
 // Whether a name starts with "memory-dump".
 fn is_dump(dumps: &[u8], name: usize) -> bool

@@ -4,7 +4,7 @@ use crate::visit::visit_entry;
 use crate::walk::Visited;
 use crate::walk::Walk;
 use crate::walk::Walked;
-ghost use Prim.Native.Nat.{ℕ, _+_, _<_, _≤_};
+ghost use Prim.Native.Nat.{_+_, _<_, _≤_};
 ghost use mathlib.Core.Path.{_≡_};
 ghost use lib.ListN.{length, take, drop, set};
 ghost use Rattle.rules.specs.Lists.{All};

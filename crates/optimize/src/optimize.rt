@@ -13,9 +13,10 @@ ghost use lib.ListN.{length, replicate};
 ghost use lib.Dec.{eqb};
 ghost use Rattle.rules.specs.Limits.{house, adds, modeOf};
 ghost use Rattle.rules.specs.Call.{left, optimizeModelImpl, optimizeModelWithSolver, optimizeModelWithInput};
+ghost use Rattle.tables.specs.SectionAnswers.{Inside};
 ghost use Rattle.tables.specs.Judging.{callWith};
 ghost use Rattle.optimize.specs.Runs.{Runs};
-ghost use Rattle.optimize.specs.Entries.{entryIs, answered, inputsEnd, repliesEnd, resultLeft, InOrder, Brought, RunnableParts, modelParts};
+ghost use Rattle.optimize.specs.Entries.{entryIs, answered, inputsEnd, repliesEnd, resultLeft, InOrder, RunnableParts, modelParts};
 
 // Which of the three functions is called.
 pub(crate) enum Entry {
@@ -88,7 +89,7 @@ fn fold_parts(
     result: &mut [u64],
     scratch: &mut [u64],
 ) -> Optimized
-    requires { ⌜ Brought (now words) sections «inputs_to» «replies_to» ⌝ }
+    requires { ⌜ Inside (now words) sections ⌝ }
     requires { ⌜ RunnableParts (now words) (now dumps) sections «inputs_to» «replies_to» (length (now result)) (length (now scratch)) ⌝ }
     ensures { λ r. ⌜ Runs (modelParts (now (words .entry)) (now (dumps .entry)) sections «inputs_to» «replies_to») (modeOf mode) (length (now (result .entry))) r (now (result .exit)) ⌝ }
 {

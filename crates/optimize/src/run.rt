@@ -15,7 +15,7 @@ use crate::result::copy_words;
 use crate::walk::Optimized;
 use crate::walk::Walk;
 use crate::walk::Walked;
-ghost use Prim.Native.Nat.{ℕ, _+_, _<_, _≤_};
+ghost use Prim.Native.Nat.{_+_, _<_, _≤_};
 ghost use mathlib.Core.Path.{_≡_};
 ghost use mathlib.Core.Bool.{true, false};
 ghost use mathlib.Core.List.{List};

@@ -27,7 +27,7 @@ use crate::walk::Visited;
 use crate::walk::Walk;
 use tables::node::NodeKind;
 use tables::refusal::Refusal;
-ghost use Prim.Native.Nat.{ℕ, _+_, _*_, _<_, _≤_};
+ghost use Prim.Native.Nat.{_+_, _<_, _≤_};
 ghost use mathlib.Core.Path.{_≡_};
 ghost use lib.ListN.{length};
 ghost use Rattle.rules.specs.Table.{kindOf};

@@ -91,7 +91,7 @@ pub(crate) fn known_sort(code: u64) -> bool
 }
 
 // Whether a number fits the width of a sort.
-pub(crate) fn fits_sort(sort: u64, number: u64) -> bool
+pub fn fits_sort(sort: u64, number: u64) -> bool
     ensures { λ r. ⌜ r ≡ fits sort number ⌝ }
 {
     match NodeType::from_code(sort) {
