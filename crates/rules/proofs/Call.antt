@@ -19,9 +19,8 @@ use Rattle.rules.specs.Model.{Model, Mode}
 use Rattle.rules.specs.Whole.{Folded, fold, run}
 use Rattle.rules.specs.Table.{decode}
 use Rattle.rules.specs.Check.{check}
-use Rattle.rules.specs.Value.{Value}
 use Rattle.rules.specs.Result.{size, resultWords}
-use Rattle.rules.specs.Demand.{NonePassed, Faithful, RepliesHold, Keeps, Demand3}
+use Rattle.rules.specs.Demand.{Demand3OfFold}
 use Rattle.rules.specs.Limits.{Limits, highestMode, modeOf}
 use Rattle.rules.specs.Sections.{Sections, cut}
 use Rattle.rules.specs.Names.{namesOf, dump}
@@ -29,7 +28,7 @@ use Rattle.rules.specs.Call.{Call, judgeMode, needOf, judgeRoom, Entry, 
 use Rattle.rules.specs.Legal as legal
 use Rattle.rules.specs.Room.{RoomRule}
 use Rattle.rules.proofs.Check.{accepted}
-use Rattle.rules.proofs.Demand.{run-done, demand-3}
+use Rattle.rules.proofs.Demand.{run-done, demand-3-of-fold}
 use Rattle.rules.proofs.Room.{room-rule}
 use Rattle.rules.proofs.Sections.{bind-done, never, same-done, through}
 
@@ -156,22 +155,23 @@ unfolding flatten size
 flatten-length [] = refl
 flatten-length (xs ∷ xss) = length-append xs (flatten xss) ∙ ap (λ n. length xs + n) (flatten-length xss)
 
--- the model that a call comes to needs no more than the table as given
+-- the model that a call comes to is well formed
+formed : (entry : Entry) (names : List (List ℕ)) (s : Sections) → check (length names) (s .rows) (modelFrom names s) ≡ none → legal.WellFormed (modelFrom names (brought entry s))
+unfolding check legal.Accepted
+formed impl names s c = accepted (length names) (s .rows) (dump names) (s .sequentials) (s .initial) (s .later) (s .inputs) (s .replies) c .model
+formed withSolver names s c = accepted (length names) (s .rows) (dump names) (s .sequentials) (s .initial) (s .later) [] (s .replies) c .model
+formed withInput names s c = accepted (length names) (s .rows) (dump names) (s .sequentials) (s .initial) (s .later) (s .inputs) [] c .model
+
+pub call-formed : (limits : Limits) (entry : Entry) (call : Call) (a : Accepted) → Passed limits entry call a → legal.WellFormed (a .model)
+call-formed limits entry call a p = subst legal.WellFormed (p .model-is) (formed entry (p .names) (p .sections) (p .judged))
+
+-- and needs no more than the table as given
 model-fits : (entry : Entry) (names : List (List ℕ)) (s : Sections) (how : Mode) (f : Folded) → check (length names) (s .rows) (modelFrom names s) ≡ none
     → fold (modelFrom names (brought entry s)) how ≡ done f → size (resultWords (modelFrom names (brought entry s)) f) ≤ needOf s
-unfolding check legal.Accepted RoomRule
-model-fits impl names s how f c e =
-    let m : Model = modelFrom names s in
-    let w = accepted (length names) (s .rows) (dump names) (s .sequentials) (s .initial) (s .later) (s .inputs) (s .replies) c .model in
-    omega (arith, room-rule m how f w e, length-map (s .rows) decode)
-model-fits withSolver names s how f c e =
-    let m : Model = modelFrom names (brought withSolver s) in
-    let w = accepted (length names) (s .rows) (dump names) (s .sequentials) (s .initial) (s .later) (brought withSolver s .inputs) (s .replies) c .model in
-    omega (arith, room-rule m how f w e, length-map (s .rows) decode)
-model-fits withInput names s how f c e =
-    let m : Model = modelFrom names (brought withInput s) in
-    let w = accepted (length names) (s .rows) (dump names) (s .sequentials) (s .initial) (s .later) (s .inputs) (brought withInput s .replies) c .model in
-    omega (arith, room-rule m how f w e, length-map (s .rows) decode)
+unfolding RoomRule
+model-fits impl names s how f c e = omega (arith, room-rule (modelFrom names s) how f (formed impl names s c) e, length-map (s .rows) decode)
+model-fits withSolver names s how f c e = omega (arith, room-rule (modelFrom names (brought withSolver s)) how f (formed withSolver names s c) e, length-map (s .rows) decode)
+model-fits withInput names s how f c e = omega (arith, room-rule (modelFrom names (brought withInput s)) how f (formed withInput names s c) e, length-map (s .rows) decode)
 
 module _ (limits : Limits) (entry : Entry) (call : Call) where
   -- "A refusal leaves the result and scratch buffers all zero."
@@ -211,25 +211,8 @@ module _ (limits : Limits) (entry : Entry) (call : Call) where
   scratch-length = length-replicate (call .scratchRoom) 0
 
 -- ---- demand 3
-abbrev Kept : Mode → Model → Folded → Type 0
-Kept how m f =
-    NonePassed (how .reading) f
-    → ((α : ℕ → Value) → Faithful (how .reading) (m .table) (m .sequentials) (f .state) α → RepliesHold (how .reading) (m .table) α (f .state))
-    → (α : ℕ → Value) → Faithful (how .reading) (m .table) (m .sequentials) (f .state) α → Keeps (how .reading) (m .table) f α
-
-run-sound : (entry : Entry) (names : List (List ℕ)) (s : Sections) (how : Mode) (f : Folded) → run (length names) (s .rows) (modelFrom names (brought entry s)) how ≡ done f
-    → Kept how (modelFrom names (brought entry s)) f
-unfolding Demand3
-run-sound impl names s how f e = demand-3 (length names) (s .rows) (dump names) (s .sequentials) (s .initial) (s .later) (s .inputs) (s .replies) how f e
-run-sound withSolver names s how f e = demand-3 (length names) (s .rows) (dump names) (s .sequentials) (s .initial) (s .later) (brought withSolver s .inputs) (s .replies) how f e
-run-sound withInput names s how f e = demand-3 (length names) (s .rows) (dump names) (s .sequentials) (s .initial) (s .later) (s .inputs) (brought withInput s .replies) how f e
-
 pub demand3-of-call : Demand3OfCall
-unfolding Demand3OfCall outcome judgeCut judgeAndFold
+unfolding Demand3OfCall Demand3OfFold
 demand3-of-call limits entry call a e =
-    through (judgeMode (call .mode)) _ a e λ how m e₁.
-    through (cut limits (call .words)) _ a e₁ λ s c e₂.
-    through (namesOf limits (call .names)) _ a e₂ λ names n e₃.
-    through (judgeRoom (needOf s) (call .resultRoom) (call .scratchRoom)) _ a e₃ λ u r e₄.
-    through (run (length names) (s .rows) (modelFrom names (brought entry s)) how) _ a e₄ λ f g e₅.
-    subst (λ (a : Accepted). Kept (a .how) (a .model) (a .folded)) (same-done _ a e₅) (run-sound entry names s how f g)
+    let p = passed limits entry call a e in
+    demand-3-of-fold (a .model) (a .how) (a .folded) (call-formed limits entry call a p) (p .folds)

@@ -1,7 +1,7 @@
 -- A legal node by its kind, and what a legal table says of a listed sequential's state and init.
 -- Assumes nothing.
 use Prim.Native.Nat.{ℕ, _<_}
-use mathlib.Core.Path.{_≡_, subst}
+use mathlib.Core.Path.{_≡_, ap, _∙_, subst}
 use mathlib.Core.Bool.{Bool, true, cond}
 use mathlib.Core.List.{List, [], _∷_}
 use native.Mathlib.Omega.{arith}
@@ -9,7 +9,7 @@ use lib.ListN.{length}
 use lib.Dec.{eqb}
 use borrow.Author.Tests.{eqb-true, eq-eqb}
 use Rattle.rules.specs.Lists.{All}
-use Rattle.rules.specs.Table.{Kind, State, Next, Node, nodeAt, operandsAs}
+use Rattle.rules.specs.Table.{Kind, State, Next, Node, nodeAt, operandsAs, operands}
 use Rattle.rules.specs.Check.{mayServe, sortedAs}
 use Rattle.rules.specs.Legal.{Legal, AllLegal, Sequential}
 use Rattle.rules.proofs.Base.{is-kind}
@@ -28,6 +28,10 @@ pub record InitOk (t : List Node) (k : ℕ) (nd : Node) : Type 0 where
   pub before : nd .a < k
   pub serve : mayServe (nodeAt t (nd .a)) ≡ true
   pub sort : nodeAt t (nd .a) .sort ≡ nd .sort
+
+-- its init is its only operand
+pub init-operand : (nd : Node) → nd .kind ≡ State → nd .b ≡ 1 → operands nd ≡ nd .a ∷ []
+init-operand nd e q = ap (λ K. operandsAs K nd) e ∙ ap (λ b. cond b (nd .a ∷ []) []) (eq-eqb (nd .b) 1 q)
 
 pub init-ok : (t : List Node) (k : ℕ) (nd : Node) → nd .kind ≡ State → nd .b ≡ 1 → Legal t k nd → InitOk t k nd
 init-ok t k nd e q g =

@@ -34,6 +34,8 @@ pub mod Label
 pub mod Text
 pub mod Reader
 pub mod Call
+pub mod Faithful
+pub mod Worked
 pub mod CallCases
 pub mod Judged
 pub mod NumberedWalk

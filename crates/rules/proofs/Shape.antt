@@ -21,7 +21,7 @@ use Rattle.rules.specs.Fold.{constOf}
 use Rattle.rules.specs.Questions.{firstReply, otherReplies}
 use Rattle.rules.specs.Tally.{replyAt, Apart}
 use Rattle.rules.specs.Laws.{MadeRow}
-use Rattle.rules.proofs.Base.{no, cases-cond, inside-or-past, all-map, all-join, put-other, put-all, is-kind, kind-is}
+use Rattle.rules.proofs.Base.{no, inside-or-past, all-map, all-join, put-other, put-all, is-kind, kind-is}
 use Rattle.rules.proofs.Words.{width-bit}
 use Rattle.rules.proofs.Legal.{legal-as}
 use Rattle.rules.proofs.Start.{given-row, new-row}
@@ -78,6 +78,7 @@ module _ (t : List Node) where
     pub inside : h .state < length t
     pub state : nodeAt t (h .state) .kind ≡ State
     pub by : length t + 1 < h .by
+    pub bare : operands (nodeAt t (h .state)) ≡ []
 
   -- what was taken from the inputs ins and the replies reps
   pub record Books (how : Reading) (ins reps : List ℕ) (passed : ℕ) (inputs replies : List ℕ) (asked : List Question) (held : List Held) : Type 0 where
@@ -89,12 +90,17 @@ module _ (t : List Node) where
     pub took : All Took held
     pub apart : Apart held
 
-  -- the states that took an input are marked
+  -- the states that took an input are replaced by the constants made for them
   abbrev pub Marked : (ℕ → Mark) → List Held → Type 0
-  Marked mark held = All (λ h. mark (h .state) ≢ fresh) held
+  Marked mark held = All (λ h. mark (h .state) ≡ replaced (h .by)) held
 
-  pub marked-put : (mark : ℕ → Mark) (k : ℕ) (m : Mark) → m ≢ fresh → (hs : List Held) → Marked mark hs → Marked (put mark k m) hs
-  marked-put mark k m n hs h = all-map (λ h. mark (h .state) ≢ fresh) (λ h. put mark k m (h .state) ≢ fresh) (λ h q. cases-cond (λ x. x ≢ fresh) (eqb (h .state) k) (λ _. n) (λ _. q)) hs h
+  -- so none of them is fresh
+  pub marked-fresh : (mark : ℕ → Mark) (k : ℕ) → mark k ≡ fresh → (hs : List Held) → Marked mark hs → All (λ h. h .state ≢ k) hs
+  marked-fresh mark k e hs h = all-map (λ h. mark (h .state) ≡ replaced (h .by)) (λ h. h .state ≢ k) (λ h q z. let m = ap mark z in let o : _≡_ {A = ℕ} 0 1 = cc in let i : ⊥ = omega arith in absurd i) hs h
+
+  pub marked-put : (mark : ℕ → Mark) (k : ℕ) (m : Mark) (hs : List Held) → All (λ h. h .state ≢ k) hs → Marked mark hs → Marked (put mark k m) hs
+  marked-put mark k m [] n h = tt
+  marked-put mark k m (g ∷ hs) n h = (put-other mark k m (g .state) (n .0) ∙ h .0, marked-put mark k m hs (n .1) (h .1))
 
   -- ---- the changes of a shape
   module _ (rows : ℕ → Node) (made : ℕ) (mark : ℕ → Mark) (h : Shape rows made mark) where

@@ -27,13 +27,13 @@ use Rattle.rules.specs.Tally.{writes, ifReplaced}
 use Rattle.rules.specs.Room.{due}
 use Rattle.rules.specs.Laws.{SortFor}
 use Rattle.btor.proofs.Agreement.{cases}
-use Rattle.rules.proofs.Base.{mk, all-map, all-join, If, if-bind, put-same, put-other}
+use Rattle.rules.proofs.Base.{mk, all-join, If, if-bind, put-same, put-other}
 use Rattle.rules.proofs.Standing.{Below, Ref, Refs, FoldStands, ConstFits, stands-itself, stands-row, stands-const, own-fold, words-fold, test-fold, eq-fold, not-fold, ext-fold, const-fold, and-fold, or-fold}
 use Rattle.rules.proofs.Budget.{unpaid-same, unpaid-put, credit-put, credit-replaced}
 use Rattle.rules.proofs.Search.{Strict, looked-writes, found-fold, find-among, strict-zero, tally-strict}
 use Rattle.rules.proofs.Questions.{Asks, quiet-asks, bit-asks, and-asks, ite-asks}
 use Rattle.rules.proofs.Went.{fee, Fine, At, Later, Went, went-none, went-both, Visited}
-use Rattle.rules.proofs.Shape.{Books, keptAs, Alike, MarkStands, marked-put, shape-row, shape-const, shape-mark, points, operand-fits, books-held, books-passed}
+use Rattle.rules.proofs.Shape.{Books, keptAs, Alike, MarkStands, marked-fresh, marked-put, shape-row, shape-const, shape-mark, points, operand-fits, books-held, books-passed}
 
 module _ (t : List Node) (ways : Ways) (ins reps : List ℕ) where
   module _ (legal : AllLegal t) (vis : St → ℕ → Out (St × ℕ)) (vis-went : (σ : St) (j : ℕ) → j < length t → Fine t ways ins reps σ → If (Visited t ways ins reps j σ) (vis σ j))
@@ -53,9 +53,6 @@ module _ (t : List Node) (ways : Ways) (ins reps : List ℕ) where
       unfolding settle
       settled a m σ₁ f ha hm x ff = go f ff
         where
-          marks : (mk : Mark) → ((p : ℕ) → due p mk ≡ 0) → mk ≢ fresh
-          marks mk z e = let q : _≡_ {A = ℕ} 1 0 = ap (due 1) (sym e) ∙ z 1 in omega (arith, q)
-
           paid : (σ₂ : St) (mk : Mark) → Fine t ways ins reps σ₂ → Later t ways ins reps σ₁ σ₂ → MarkStands t (σ₂ .rows) (σ₂ .made) k mk → ((p : ℕ) → due p mk ≡ 0) → ((i : ℕ) → σ₂ .mark i ≡ σ₁ .mark i)
               → σ₂ .made ≤ σ₁ .made + 1 → σ₂ .asked ≡ σ₁ .asked → σ₂ .looked ≡ σ₁ .looked → Went t ways ins reps (suc k) 0 0 σ (setMark σ₂ k mk)
           paid σ₂ mk f₂ lt ms z same em ea el =
@@ -65,7 +62,7 @@ module _ (t : List Node) (ways : Ways) (ins reps : List ℕ) where
               let same₃ = unpaid-same (λ k. 3) (length t) (σ₂ .mark) (σ₁ .mark) (λ i j. same i) in
               let sameF = unpaid-same (fee t) (length t) (σ₂ .mark) (σ₁ .mark) (λ i j. same i) in
               record {
-                fine = record { shape = shape-mark t (σ₂ .rows) (σ₂ .made) (σ₂ .mark) (f₂ .shape) k mk ms; books = f₂ .books; marked = marked-put t (σ₂ .mark) k mk (marks mk z) (σ₂ .held) (f₂ .marked); fair = f₂ .fair; gained = omega (arith, f₂ .gained, credit-put (fee t) (length t) (σ₂ .mark) k mk (λ p. subst (λ x. ifReplaced p x ≤ ifReplaced p mk) (sym still) (omega arith))) };
+                fine = record { shape = shape-mark t (σ₂ .rows) (σ₂ .made) (σ₂ .mark) (f₂ .shape) k mk ms; books = f₂ .books; marked = marked-put t (σ₂ .mark) k mk (σ₂ .held) (marked-fresh t (σ₂ .mark) k still (σ₂ .held) (f₂ .marked)) (f₂ .marked); fair = f₂ .fair; gained = omega (arith, f₂ .gained, credit-put (fee t) (length t) (σ₂ .mark) k mk (λ p. subst (λ x. ifReplaced p x ≤ ifReplaced p mk) (sym still) (omega arith))) };
                 above = λ i j. put-other (σ₂ .mark) k mk i (λ r. omega arith) ∙ same i ∙ x .above i (omega arith);
                 later = λ w s h. lt w s (x .later w s h);
                 few = omega (arith, x .few, same₁, unpaid-put (λ k. 1) (length t) (σ₂ .mark) k mk l still z, em);
@@ -327,10 +324,10 @@ module _ (t : List Node) (ways : Ways) (ins reps : List ℕ) where
           (tally-strict (ways .reading) (σ₁ .passed) (σ₁ .rows) (length t) y m (x .fine .books .clean))
           (subst (λ s. FoldStands t (σ₁ .rows) (σ₁ .made) k s (foldFound (r .value))) (sym e) (found-fold t (ways .reading) (σ₁ .rows) (σ₁ .made) pt y (length t) k m b)) x
 
-      takeInput-went : (xs : List ℕ) → σ .inputs ≡ xs → g .kind ≡ State → If (Visited t ways ins reps k σ) (takeInput t ways σ k g xs)
+      takeInput-went : (xs : List ℕ) → σ .inputs ≡ xs → g .kind ≡ State → operands g ≡ [] → If (Visited t ways ins reps k σ) (takeInput t ways σ k g xs)
       unfolding settle takeInput
-      takeInput-went [] ei ks = settled 0 0 σ stays (omega arith) (omega arith) (went-none t ways ins reps k 0 σ f₀) tt
-      takeInput-went (x ∷ xs) ei ks =
+      takeInput-went [] ei ks os = settled 0 0 σ stays (omega arith) (omega arith) (went-none t ways ins reps k 0 σ f₀) tt
+      takeInput-went (x ∷ xs) ei ks os =
           cases (If (Visited t ways ins reps k σ)) (ways .dump (g .name)) (λ _. settled 0 0 σ stays (omega arith) (omega arith) (went-none t ways ins reps k 0 σ f₀) tt)
           (λ _. cases (If (Visited t ways ins reps k σ)) (eqb (g .sort) 3) (λ _. tt)
           (λ n. cases (If (Visited t ways ins reps k σ)) (fits (g .sort) x)
@@ -338,7 +335,7 @@ module _ (t : List Node) (ways : Ways) (ins reps : List ℕ) where
           (λ _. tt)))
         where
           others : All (λ h. h .state ≢ k) (σ .held)
-          others = all-map (λ h. σ .mark (h .state) ≢ fresh) (λ h. h .state ≢ k) (λ h q e. q (ap (σ .mark) e ∙ fresh!)) (σ .held) (f₀ .marked)
+          others = marked-fresh t (σ .mark) k fresh! (σ .held) (f₀ .marked)
 
           -- the state is marked, then known to hold the input
           held : If (Visited t ways ins reps k σ) (settle t ways k σ (make (g .sort) x)) → If (Visited t ways ins reps k σ) (settle t ways k (addHeld (setInputs σ xs) k (newNumber t ways σ)) (make (g .sort) x))
@@ -350,9 +347,9 @@ module _ (t : List Node) (ways : Ways) (ins reps : List ℕ) where
                     fair = v .went .fine .fair;
                     gained = v .went .fine .gained;
                     books = books-held t (ways .reading) ins reps (σ .passed) (σ .inputs) (σ .replies) (σ .asked) (σ .held) (v .went .fine .books) x xs (record { state = k; by = newNumber t ways σ }) ei
-                        (record { inside = l; state = ap (λ (w : Node). w .kind) (sym eg) ∙ ks; by = omega arith }) others;
-                    marked = all-join (λ (h : Held). put (σ .mark) k (replaced (newNumber t ways σ)) (h .state) ≢ fresh) (σ .held) (record { state = k; by = newNumber t ways σ } ∷ []) (v .went .fine .marked)
-                        ((λ e. let z : replaced (newNumber t ways σ) ≡ fresh = sym (put-same (σ .mark) k (replaced (newNumber t ways σ))) ∙ e in let o : _≡_ {A = ℕ} 0 1 = cc in let i : ⊥ = omega arith in absurd i), tt);
+                        (record { inside = l; state = ap (λ (w : Node). w .kind) (sym eg) ∙ ks; by = omega arith; bare = ap operands (sym eg) ∙ os }) others;
+                    marked = all-join (λ (h : Held). put (σ .mark) k (replaced (newNumber t ways σ)) (h .state) ≡ replaced (h .by)) (σ .held) (record { state = k; by = newNumber t ways σ } ∷ []) (v .went .fine .marked)
+                        (put-same (σ .mark) k (replaced (newNumber t ways σ)), tt);
                   };
                   above = v .went .above;
                   later = v .went .later;
@@ -436,7 +433,7 @@ module _ (t : List Node) (ways : Ways) (ins reps : List ℕ) where
           go true q h v =
               unary-went (mk State s a b c nm) eg (λ x. stays) (h .0) (v .0) (λ x. refl)
               (λ rows made x r. subst (λ z. Refs t rows made k (cond z (x ∷ []) []) (cond z (a ∷ []) [])) (sym q) (r, tt)) (λ σ₁ x cx f₁ h fx. tt)
-          go false q h v = takeInput-went (mk State s a b c nm) eg (σ .inputs) refl refl
+          go false q h v = takeInput-went (mk State s a b c nm) eg (σ .inputs) refl refl (ap (λ z. cond z (a ∷ []) []) q)
       process-went Next eg g =
           let nd : Node = mk Next s a b c nm in
           operand nd eg (Visited t ways ins reps k σ) σ a _ (g .before .0) (g .serve .0) (went-none t ways ins reps k 0 σ f₀)

@@ -2,7 +2,8 @@
 -- What it spends beyond what the marked nodes paid: a question for each bad entry, and one more.
 -- Assumes nothing.
 use Prim.Native.Nat.{ℕ, suc, _+_, _<_, _≤_}
-use mathlib.Core.Path.{_≡_, refl, subst}
+use mathlib.Core.Path.{_≡_, refl, sym, ap, _∙_, subst}
+use mathlib.Core.Logic.{_≢_}
 use mathlib.Core.Bool.{Bool, true, false, _&&_}
 use mathlib.Core.Option.{Option}
 use mathlib.Core.List.{List, [], _∷_}
@@ -11,7 +12,7 @@ use lib.ListN.{length}
 use lib.Dec.{eqb}
 use Rattle.rules.specs.Lists.{All}
 use Rattle.rules.specs.Refusal.{Out, refused, done}
-use Rattle.rules.specs.Table.{Node, nodeAt}
+use Rattle.rules.specs.Table.{Node, nodeAt, operands}
 use Rattle.rules.specs.Model.{Model, Mode}
 use Rattle.rules.specs.Legal.{AllLegal, Sequential, BadEntry, WellFormed}
 use Rattle.rules.specs.Walk.{St, Mark, fresh, kept, replaced, start}
@@ -22,11 +23,11 @@ use Rattle.rules.specs.Whole.{waysOf, trivial, dropNext, judgeSequential
 use Rattle.rules.specs.Tally.{ifReplaced}
 use Rattle.rules.specs.Room.{unpaid}
 use Rattle.btor.proofs.Agreement.{cases}
-use Rattle.rules.proofs.Base.{If, if-bind, if-map}
+use Rattle.rules.proofs.Base.{all-map, If, if-bind, if-map}
 use Rattle.rules.proofs.Budget.{unpaid-less, credit-put}
-use Rattle.rules.proofs.Legal.{state-ok}
+use Rattle.rules.proofs.Legal.{state-ok, init-operand}
 use Rattle.rules.proofs.Standing.{Stands, stands-itself}
-use Rattle.rules.proofs.Shape.{shape-mark, marked-put, start-shape, start-books}
+use Rattle.rules.proofs.Shape.{Took, shape-mark, marked-put, start-shape, start-books}
 use Rattle.rules.proofs.Went.{fee, Fine, Went, Visited, ask-went}
 use Rattle.rules.proofs.Structure.{visit-went}
 
@@ -56,6 +57,10 @@ module _ (t : List Node) (ways : Ways) (ins reps : List ℕ) (legal : AllLegal t
   at-most p kept = omega arith
   at-most p (replaced r) = omega arith
 
+  -- a state whose Next is listed has an init, so it took no input
+  has-init : {x : ℕ} (os : List ℕ) → os ≡ x ∷ [] → os ≡ [] → ⊥
+  has-init os e z = let o : _≡_ {A = ℕ} 0 1 = cc in omega arith
+
   drop-walked : (σ : St) (s : ℕ) → Sequential t s → Goes 0 σ (dropNext t σ (nodeAt t s))
   drop-walked σ s h = λ f.
       let q = state-ok t s legal h in
@@ -67,7 +72,7 @@ module _ (t : List Node) (ways : Ways) (ins reps : List ℕ) (legal : AllLegal t
           shape = shape-mark t (σ .rows) (σ .made) (σ .mark) (f .shape) k (replaced r)
               ((λ _. i .before), subst (Stands t (σ .rows) (σ .made) r) (i .sort) (stands-itself t (σ .rows) (σ .made) r (omega (arith, i .before, q .inside)) (i .serve)));
           books = f .books;
-          marked = marked-put t (σ .mark) k (replaced r) (λ z. let o : _≡_ {A = ℕ} 0 1 = cc in let i : ⊥ = omega arith in absurd i) (σ .held) (f .marked);
+          marked = marked-put t (σ .mark) k (replaced r) (σ .held) (all-map (Took t) (λ g. g .state ≢ k) (λ g w z. has-init (operands (nodeAt t k)) (init-operand (nodeAt t k) (q .state) (h .init)) (ap (λ j. operands (nodeAt t j)) (sym z) ∙ w .bare)) (σ .held) (f .books .took)) (f .marked);
           fair = f .fair;
           gained = omega (arith, f .gained, credit-put (fee t) (length t) (σ .mark) k (replaced r) (λ p. at-most p (σ .mark k)));
         };

@@ -166,3 +166,9 @@ Demand3OfCall =
     → RepliesHold (a .how .reading) (a .model .table) α (a .folded .state))
     → (α : ℕ → Value) → Faithful (a .how .reading) (a .model .table) (a .model .sequentials) (a .folded .state) α
     → Keeps (a .how .reading) (a .model .table) (a .folded) α
+
+-- its premises are not said of nothing: every such call has a faithful assignment
+unfoldable pub FaithfulOfCall : Type 0
+FaithfulOfCall =
+    (limits : Limits) (entry : Entry) (call : Call) (a : Accepted) → outcome limits entry call ≡ done a
+    → (α : ℕ → Value) × Faithful (a .how .reading) (a .model .table) (a .model .sequentials) (a .folded .state) α

@@ -15,6 +15,8 @@ use Rattle.rules.specs.Walk.{St, start}
 use Rattle.rules.specs.Visit.{Ways, visitTop}
 use Rattle.rules.specs.Whole.{Folded, run}
 use Rattle.rules.specs.Result.{resultWords}
+use Rattle.rules.specs.Sections.{Sections, encode}
+use Rattle.rules.specs.Call.{Call, needOf}
 
 abbrev pub node : Kind → ℕ → ℕ → ℕ → ℕ → Node
 node k s x y z = record { kind = k; sort = s; a = x; b = y; c = z; name = 0 }
@@ -64,6 +66,10 @@ NoonCases =
 -- ---- the example
 abbrev pub row : ℕ → ℕ → ℕ → ℕ → ℕ → ℕ → Row
 row k s x y z nm = record { code = k; sort = s; a = x; b = y; c = z; name = nm }
+
+-- a call with the words of some sections, one name, and the room that they need
+abbrev pub callOf : ℕ → Sections → Call
+callOf mode s = record { mode = mode; words = encode s; names = 1 ∷ 0 ∷ 0 ∷ []; resultRoom = needOf s; scratchRoom = needOf s }
 
 abbrev pub mode0 : Mode
 mode0 = record { minimise = false; terminate = false; oneQuery = false; reading = rust }

@@ -26,3 +26,4 @@ pub mod Label
 pub mod Text
 pub mod Reader
 pub mod Numbered
+pub mod Worked
