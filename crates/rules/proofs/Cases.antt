@@ -10,10 +10,13 @@ use Rattle.rules.specs.Questions.{ask, askOr}
 use Rattle.rules.specs.Visit.{visit1, visit2, visit3, settle, finishStay, finish, forward, takeInput, unary, binary, iteOn, process, visit}
 use Rattle.rules.specs.Whole.{judgeSequentials, visitAll, judgeBads, lastQuestion, foldBads, fold, run}
 use Rattle.rules.specs.Result.{gather, questionWords, resultWords}
+use Rattle.rules.specs.Sections.{rowsWords, encode, cutSection, rowsOf, cutSix, cut}
+use Rattle.rules.specs.Names.{cutNames, countedNames, namesOf, startsWith}
+use Rattle.rules.specs.Call.{judgeMode, judgeRoom, judgeAndFold, judgeCut, outcome}
 use Rattle.rules.specs.Cases.{NoonCases, NoonExample, UltAtEquality, OneBranch, PastUnsettled, OwnConstant, TrueBadStays, UnaskedUnjudged}
 
 pub noon-cases : NoonCases
-unfolding NoonCases compute signedDiv complement width ones visit process settle finish finishStay unary binary visit1 visit2 visit3 iteOn takeInput forward find lookAt
+unfolding NoonCases UltAtEquality PastUnsettled outcome judgeMode encode rowsWords cut cutSix cutSection rowsOf namesOf countedNames cutNames startsWith judgeCut judgeRoom judgeAndFold run check checkNodes checkSequentials checkBads resultWords gather sum questionWords fold foldBads judgeBads judgeSequentials visitAll ask compute signedDiv complement width ones visit process settle finish finishStay unary binary visit1 visit2 visit3 iteOn takeInput forward find lookAt
 noon-cases = (refl, refl, refl, refl, refl, refl, refl, refl, refl, refl, refl, refl, refl)
 
 pub noon-example : NoonExample
@@ -21,17 +24,9 @@ unfolding NoonExample run check checkNodes checkSequentials checkBads width resu
 noon-example = refl
 
 -- ---- what looks right and is wrong
-pub ult-at-equality : UltAtEquality
-unfolding UltAtEquality visit process settle finish finishStay binary visit2
-ult-at-equality = refl
-
 pub one-branch : OneBranch
 unfolding OneBranch width visit process settle finish finishStay iteOn takeInput
 one-branch = refl
-
-pub past-unsettled : PastUnsettled
-unfolding PastUnsettled visit process settle visit2 visit3 forward find lookAt takeInput
-past-unsettled = refl
 
 pub own-constant : OwnConstant
 unfolding OwnConstant width visit process settle takeInput

@@ -1,51 +1,73 @@
 -- Worked cases of document 01's "Noon itself".
---     NoonCases     every case marked P: what the last node of a small table is left as, and the two counts of writes
+--     NoonCases     every case marked P, of accepted calls: the constants made, what is replaced, and the two counts of writes
 --     NoonExample   the example's nine result sections
---     UltAtEquality, OneBranch, PastUnsettled and after    what looks right and is wrong, each on a small table
+--     OneBranch and after, UltAtEquality, PastUnsettled    what looks right and is wrong, each on a small table
 -- Assumes nothing.
 use Prim.Native.Nat.{ℕ, _-_, _^_}
 use mathlib.Core.Path.{_≡_}
 use mathlib.Core.Bool.{false}
 use mathlib.Core.List.{List, [], _∷_}
+use lib.ListN.{length, getD}
 use Rattle.btor.specs.Operators.{Op, rust, Add, Sub, Mul, Div, Rem, Sll}
 use Rattle.rules.specs.Refusal.{Out, done, refused}
-use Rattle.rules.specs.Table.{Kind, Read, Write, Word, Ult, Ite, And, Not, State, Input, Row, Node, constant}
+use Rattle.rules.specs.Table.{Kind, Ite, State, Row, Node, constant, opCode}
 use Rattle.rules.specs.Model.{Model, Mode, modelOf}
 use Rattle.rules.specs.Walk.{St, start}
 use Rattle.rules.specs.Visit.{Ways, visitTop}
 use Rattle.rules.specs.Whole.{Folded, run}
 use Rattle.rules.specs.Result.{resultWords}
+use Rattle.rules.specs.Limits.{house}
 use Rattle.rules.specs.Sections.{Sections, encode}
-use Rattle.rules.specs.Call.{Call, needOf}
+use Rattle.rules.specs.Call.{Call, needOf, impl, Accepted, outcome, sectionsOf}
 
-abbrev pub node : Kind → ℕ → ℕ → ℕ → ℕ → Node
-node k s x y z = record { kind = k; sort = s; a = x; b = y; c = z; name = 0 }
+-- ---- calls
+abbrev pub row : ℕ → ℕ → ℕ → ℕ → ℕ → ℕ → Row
+row k s x y z nm = record { code = k; sort = s; a = x; b = y; c = z; name = nm }
 
--- mode 0, no reply
-abbrev pub plain : Ways
-plain = record { dump = λ k. false; minimise = false; replyCount = 0; reading = rust }
+-- a call with the words of some sections, one name, and the room that they need
+abbrev pub callOf : ℕ → Sections → Call
+callOf mode s = record { mode = mode; words = encode s; names = 1 ∷ 0 ∷ 0 ∷ []; resultRoom = needOf s; scratchRoom = needOf s }
 
--- what a visit leaves: the row that stands for the node, and the tally's counts of writes
-pub record Left : Type 0 where
-  pub row : Node
-  pub looked : ℕ
-  pub passed : ℕ
+-- one bad, the table's last row, and no input or reply
+abbrev pub callOn : List Row → Call
+callOn rs = callOf 0 (record { rows = rs; sequentials = []; initial = (length rs - 1) ∷ []; later = []; inputs = []; replies = [] })
 
-abbrev pub leftBy : Out (St × ℕ) → List Left
-leftBy (refused r) = []
-leftBy (done p) = record { row = p .0 .rows (p .1); looked = p .0 .looked; passed = p .0 .passed } ∷ []
+-- the sections of made constants, of replacements and of the tally, of a call that is accepted
+abbrev pub told : Out Accepted → List (List ℕ)
+told (refused r) = []
+told (done a) = let r : List (List ℕ) = sectionsOf a in getD r 1 [] ∷ getD r 2 [] ∷ getD r 8 [] ∷ []
 
--- node k of a table is left as the constant x of sort s, after looking at l writes and passing p unsettled ones
-abbrev pub LeftAs : List Node → ℕ → ℕ → ℕ → ℕ → ℕ → Type 0
-LeftAs t k s x l p = leftBy (visitTop t plain (start t [] []) k) ≡ record { row = constant s x; looked = l; passed = p } ∷ []
+-- the constants made after the shared two (each a sort and a number), what replaces which node, and the counts of writes looked at and passed
+abbrev pub Tells : List Row → List ℕ → List ℕ → ℕ → ℕ → Type 0
+Tells rs made replacements l p = told (outcome house impl (callOn rs)) ≡ made ∷ replacements ∷ (5 ∷ 0 ∷ 0 ∷ l ∷ p ∷ 0 ∷ []) ∷ []
+
+-- no constant is made, or one of sort s
+abbrev pub noneMade : List ℕ
+noneMade = 2 ∷ 1 ∷ 0 ∷ 1 ∷ 1 ∷ []
+
+abbrev pub oneMade : ℕ → ℕ → List ℕ
+oneMade s x = 3 ∷ 1 ∷ 0 ∷ 1 ∷ 1 ∷ s ∷ x ∷ []
+
+-- node k is replaced by r, and no other node is
+abbrev pub only : ℕ → ℕ → List ℕ
+only k r = 1 ∷ k ∷ r ∷ []
+
+-- an operator on two Consts of sort s, and whether the outcome is an Input
+abbrev pub onTwo : ℕ → ℕ → ℕ → ℕ → List Row
+onTwo code s x y = row 1 s x 0 0 0 ∷ row 1 s y 0 0 0 ∷ row code s 0 1 0 0 ∷ row 21 s 0 0 0 1 ∷ row 15 1 2 3 0 0 ∷ row 22 1 4 0 0 0 ∷ []
 
 abbrev pub Gives : Op → ℕ → ℕ → ℕ → Type 0
-Gives op x y r = LeftAs (constant 2 x ∷ constant 2 y ∷ node (Word op) 2 0 1 0 ∷ []) 2 2 r 0 0
+Gives op x y r = Tells (onTwo (opCode op) 2 x y) (oneMade 2 r) (only 2 8) 0 0
 
--- Write 7 at 5, write 9 at an Input, read 5
-abbrev pub forwarding : List Node
-forwarding =
-    constant 2 5 ∷ constant 2 7 ∷ node Input 2 0 0 0 ∷ constant 2 9 ∷ node State 3 0 0 0 ∷ node Write 3 4 0 1 ∷ node Write 3 5 2 3 ∷ node Read 2 6 0 0 ∷ []
+-- "Ult 12, 12 false": it is the shared false
+unfoldable pub UltAtEquality : Type 0
+UltAtEquality = Tells (row 1 2 12 0 0 0 ∷ row 1 2 12 0 0 0 ∷ row 12 1 0 1 0 0 ∷ row 22 1 2 0 0 0 ∷ []) noneMade (only 2 4) 0 0
+
+-- "Write 7 at 5, write 9 at an Input, read 5: the 7": the read is node 1, the 7 below the unsettled write
+unfoldable pub PastUnsettled : Type 0
+PastUnsettled =
+    Tells (row 1 2 5 0 0 0 ∷ row 1 2 7 0 0 0 ∷ row 21 2 0 0 0 1 ∷ row 1 2 9 0 0 0 ∷ row 19 3 0 0 0 0 ∷ row 3 3 4 0 1 0 ∷ row 3 3 5 2 3 0
+    ∷ row 2 2 6 0 0 0 ∷ row 15 1 7 2 0 0 ∷ row 22 1 8 0 0 0 ∷ []) noneMade (only 7 1) 2 1
 
 unfoldable pub NoonCases : Type 0
 NoonCases =
@@ -58,19 +80,12 @@ NoonCases =
     × Gives Rem 5 0 (2 ^ 64 - 1)
     × Gives Sll 1 63 (2 ^ 63)
     × Gives Sll 1 64 0
-    × LeftAs (constant 2 12 ∷ constant 2 12 ∷ node Ult 1 0 1 0 ∷ []) 2 1 0 0 0
-    × LeftAs (constant 11 0 ∷ node Not 11 0 0 0 ∷ []) 1 11 255 0 0
-    × LeftAs (constant 11 3 ∷ constant 11 5 ∷ node And 11 0 1 0 ∷ []) 2 2 1 0 0
-    × LeftAs forwarding 7 2 7 2 1
+    × UltAtEquality
+    × Tells (row 1 11 0 0 0 0 ∷ row 18 11 0 0 0 0 ∷ row 21 11 0 0 0 1 ∷ row 15 1 1 2 0 0 ∷ row 22 1 3 0 0 0 ∷ []) (oneMade 11 255) (only 1 7) 0 0
+    × Tells (onTwo 16 11 3 5) (oneMade 2 1) (only 2 8) 0 0
+    × PastUnsettled
 
 -- ---- the example
-abbrev pub row : ℕ → ℕ → ℕ → ℕ → ℕ → ℕ → Row
-row k s x y z nm = record { code = k; sort = s; a = x; b = y; c = z; name = nm }
-
--- a call with the words of some sections, one name, and the room that they need
-abbrev pub callOf : ℕ → Sections → Call
-callOf mode s = record { mode = mode; words = encode s; names = 1 ∷ 0 ∷ 0 ∷ []; resultRoom = needOf s; scratchRoom = needOf s }
-
 abbrev pub mode0 : Mode
 mode0 = record { minimise = false; terminate = false; oneQuery = false; reading = rust }
 
@@ -93,7 +108,14 @@ NoonExample =
     ∷ (0 ∷ []) ∷ (0 ∷ []) ∷ (0 ∷ []) ∷ (0 ∷ []) ∷ (0 ∷ [])
     ∷ (5 ∷ 1 ∷ 0 ∷ 0 ∷ 0 ∷ 0 ∷ []) ∷ []
 
--- ---- what looks right and is wrong, each on a small table
+-- ---- what looks right and is wrong, each on a small table; "Ult true at equality" and "stopping at an unsettled write" are above
+abbrev pub node : Kind → ℕ → ℕ → ℕ → ℕ → Node
+node k s x y z = record { kind = k; sort = s; a = x; b = y; c = z; name = 0 }
+
+-- mode 0, no reply
+abbrev pub plain : Ways
+plain = record { dump = λ k. false; minimise = false; replyCount = 0; reading = rust }
+
 abbrev pub inputsAfter : Out (St × ℕ) → List (List ℕ)
 inputsAfter (refused r) = []
 inputsAfter (done p) = p .0 .inputs ∷ []
@@ -106,19 +128,11 @@ abbrev pub initialAfter : Out Folded → List (List ℕ)
 initialAfter (refused r) = []
 initialAfter (done f) = f .initial ∷ []
 
--- "Ult true at equality": 12 is not below 12
-unfoldable pub UltAtEquality : Type 0
-UltAtEquality = LeftAs (constant 2 12 ∷ constant 2 12 ∷ node Ult 1 0 1 0 ∷ []) 2 1 0 0 0
-
 -- "visiting both branches of a settled Ite (an input is lost)": the State that is not chosen takes no input
 unfoldable pub OneBranch : Type 0
 OneBranch =
     let t : List Node = constant 1 1 ∷ constant 2 5 ∷ node State 2 0 0 0 ∷ node Ite 2 0 1 2 ∷ [] in
     inputsAfter (visitTop t plain (start t (7 ∷ []) []) 3) ≡ (7 ∷ []) ∷ []
-
--- "stopping at an unsettled write": the 7 below it is found
-unfoldable pub PastUnsettled : Type 0
-PastUnsettled = LeftAs forwarding 7 2 7 2 1
 
 -- "never a shared one": a bit State that takes 1 is replaced by a constant of its own, number n + 2
 unfoldable pub OwnConstant : Type 0
