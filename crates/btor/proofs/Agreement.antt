@@ -1,5 +1,6 @@
 -- The operators against the standard: equal in the standard's reading; equal in the Rust's exactly where `disagrees` says no; And, Or, Not, Ult,
--- Eq and Ext equal at each width; memories obey ArraysEx. By the numbers of SMT-LIB's vectors (BitVectors), and signed division by its four signs.
+-- Eq and Ext equal at each width; tests as bits and Ite are BTOR2's; memories obey ArraysEx. By the numbers of SMT-LIB's vectors (BitVectors), and
+-- signed division by its four signs.
 -- Assumes nothing.
 use Prim.Native.Nat.{ℕ, suc, _+_, _-_, _*_, _/_, _%_, _^_, _<_, _≤_}
 use mathlib.Core.Path.{_≡_, refl, sym, ap, ap₂, _∙_, subst, fun-ext}
@@ -7,13 +8,13 @@ use mathlib.Core.Logic.{_≢_}
 use mathlib.Core.Bool.{Bool, true, false, cond, not, _&&_, _||_, false≢true}
 use native.Mathlib.Omega.{arith}
 use native.Mathlib.Nat.{mod-eq-of-lt}
-use lib.Dec.{ltb, eqb}
+use lib.Dec.{ltb, eqb, lit<}
 use lib.Bits.{and-lt, or-lt}
 use lib.Signed.{quotZ}
 use borrow.Author.Tests.{eqb-true, eqb-false, eq-eqb, ne-eqb, ltb-true, ltb-false, lt-ltb, le-ltb}
-use Rattle.btor.specs.Operators.{Op, Add, Sub, Mul, Divu, Div, Rem, Sll, Srl, Reading, rust, standard, compute, signedDiv, signed, word, overflow, complement, Memory, read, write, divByZero, leastByMinusOne}
-use Rattle.btor.specs.Standard.{BitVector, bv2nat, nat2bv, bvneg, bvudiv, bvsdiv, bvand, bvor, bvnot, bvult, zeroExtend, bitVectorOp, onNumbers, Equal, ArraysEx}
-use Rattle.btor.specs.Agreement.{disagrees, StandardAgrees, RustAgrees, WidthsAgree, MemoriesAgree}
+use Rattle.btor.specs.Operators.{Op, Add, Sub, Mul, Divu, Div, Rem, Sll, Srl, Reading, rust, standard, compute, signedDiv, signed, word, overflow, complement, bit, Memory, read, write, divByZero, leastByMinusOne}
+use Rattle.btor.specs.Standard.{BitVector, bv2nat, nat2bv, bvneg, bvudiv, bvsdiv, bvand, bvor, bvnot, bvult, zeroExtend, bitVectorOp, onNumbers, Equal, ite, Truth, testBit, ArraysEx}
+use Rattle.btor.specs.Agreement.{disagrees, StandardAgrees, RustAgrees, WidthsAgree, TestsAgree, ChoiceAgrees, MemoriesAgree}
 use Rattle.btor.proofs.Words.{shl-far, shr-far, div-quotient, magnitude-low, magnitude-high, quot-same-low, quot-same-high, quot-low-high, quot-high-low}
 use Rattle.btor.proofs.BitVectors.{number-same, number-of, number-of-fit, number-not, number-extended, number-neg, number-add, number-sub, number-mul, number-udiv, number-urem, number-shl, number-lshr, top-bit, and-at, or-at}
 
@@ -43,6 +44,37 @@ module _ (w : ℕ) where
         unequal = λ x y hx hy e h. eqb-false x y e (equal-numbers x y hx hy h);
         extend = λ i x h. sym (number-extended w i (nat2bv x) ∙ number-of-fit w x h);
       }
+
+  same-truth : (x y : ℕ) → x < 2 ^ w → y < 2 ^ w → Truth (eqb x y) (Equal w (nat2bv x) (nat2bv y))
+  same-truth x y hx hy = record { yes = widths-agree .equal x y hx hy; no = widths-agree .unequal x y hx hy }
+
+-- ---- tests as bits, and Ite
+truth-one : (t u : Bool) {P : Type 0} → Truth t P → Truth u P → t ≡ u
+truth-one true true h k = refl
+truth-one true false h k = absurd (k .no refl (h .yes refl))
+truth-one false true h k = absurd (h .no refl (k .yes refl))
+truth-one false false h k = refl
+
+test-number : (t : Bool) → bit t ≡ bv2nat 1 (testBit t)
+unfolding bv2nat nat2bv ite
+test-number true = refl
+test-number false = refl
+
+pub tests-agree : (w : ℕ) → TestsAgree w
+tests-agree w =
+    record {
+      ult = λ x y hx hy. ap bit (widths-agree w .less x y hx hy) ∙ test-number (bvult w (nat2bv x) (nat2bv y));
+      eq = λ x y t hx hy h. ap bit (truth-one (eqb x y) t (same-truth w x y hx hy) h) ∙ test-number t;
+    }
+
+cond-ite : {A : Type 0} (t : Bool) (a b : A) → cond t a b ≡ ite t a b
+unfolding ite
+cond-ite true a b = refl
+cond-ite false a b = refl
+
+pub choice-agrees : (A : Type 0) → ChoiceAgrees A
+unfolding ChoiceAgrees
+choice-agrees A c a b t l h = cond-ite (eqb c 1) a b ∙ ap (λ (u : Bool). ite u a b) (truth-one (eqb c 1) t (same-truth 1 c 1 l (lit< tt)) h)
 
 -- ---- Read and Write
 pub memories-agree : MemoriesAgree

@@ -5,8 +5,8 @@ use Prim.Native.Nat.{ℕ, _+_, _-_, _^_, _<_, _≤_}
 use mathlib.Core.Path.{_≡_}
 use mathlib.Core.Bool.{Bool, true, false, _&&_, _||_, not}
 use lib.Dec.{eqb}
-use Rattle.btor.specs.Operators.{Op, Add, Sub, Mul, Divu, Div, Rem, Sll, Srl, Reading, rust, standard, compute, both, either, complement, less, same, extend, Memory, read, write, overflow}
-use Rattle.btor.specs.Standard.{bitVectorOp, onNumbers, onNumber, bv2nat, nat2bv, bvand, bvor, bvnot, bvult, zeroExtend, Equal, ArraysEx}
+use Rattle.btor.specs.Operators.{Op, Add, Sub, Mul, Divu, Div, Rem, Sll, Srl, Reading, rust, standard, compute, both, either, complement, less, same, bit, extend, choose, Memory, read, write, overflow}
+use Rattle.btor.specs.Standard.{bitVectorOp, onNumbers, onNumber, bv2nat, nat2bv, bvand, bvor, bvnot, bvult, zeroExtend, Equal, ite, Truth, testBit, IsTrue, ArraysEx}
 
 -- Div by 0, whatever the dividend; Div of the least by -1; Rem by 0 of every dividend but 2^64 - 1
 abbrev pub disagrees : Op → ℕ → ℕ → Bool
@@ -38,6 +38,15 @@ pub record WidthsAgree (w : ℕ) : Type 0 where
   pub equal : (x y : ℕ) → x < 2 ^ w → y < 2 ^ w → same x y ≡ true → Equal w (nat2bv x) (nat2bv y)
   pub unequal : (x y : ℕ) → x < 2 ^ w → y < 2 ^ w → same x y ≡ false → Equal w (nat2bv x) (nat2bv y) → ⊥
   pub extend : (i x : ℕ) → x < 2 ^ w → extend x ≡ bv2nat (w + i) (zeroExtend w (nat2bv x))
+
+-- the results of Ult and Eq at each width w are those of BTOR2's ult and eq, of sort bitvec 1
+pub record TestsAgree (w : ℕ) : Type 0 where
+  pub ult : (x y : ℕ) → x < 2 ^ w → y < 2 ^ w → bit (less x y) ≡ bv2nat 1 (testBit (bvult w (nat2bv x) (nat2bv y)))
+  pub eq : (x y : ℕ) (t : Bool) → x < 2 ^ w → y < 2 ^ w → Truth t (Equal w (nat2bv x) (nat2bv y)) → bit (same x y) ≡ bv2nat 1 (testBit t)
+
+-- Ite is ite, on a condition of sort 1 and two values of any sort A
+unfoldable pub ChoiceAgrees : Type 0 → Type 0
+ChoiceAgrees A = (c : ℕ) (a b : A) (t : Bool) → c < 2 ^ 1 → Truth t (IsTrue (nat2bv c)) → choose c a b ≡ ite t a b
 
 -- Read and Write are select and store
 unfoldable pub MemoriesAgree : Type 0

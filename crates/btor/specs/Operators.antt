@@ -1,7 +1,7 @@
 -- What the operators compute, on whole numbers (document 01, "Folding"; the five btor_u64_* of optimize.rs).
 --     compute       the eight operators on words of 64 bits          both, either, complement    And, Or, Not
 --     less, same    Ult and Eq, as tests                             extend                      Ext
---     read, write   Read and Write, on memories
+--     read, write   Read and Write, on memories                      choose                      Ite
 -- Assumes nothing.
 use Prim.Native.Nat.{ℕ, suc, _+_, _-_, _*_, _/_, _%_, _^_}
 use mathlib.Core.Bool.{Bool, true, false, cond, _&&_}
@@ -87,6 +87,10 @@ bit false = 0
 
 abbrev pub extend : ℕ → ℕ
 extend x = x
+
+-- of two values, the first where the condition is 1
+abbrev pub choose : {A : Type 0} → ℕ → A → A → A
+choose c a b = cond (eqb c 1) a b
 
 -- memories: a number at each address
 abbrev pub Memory : Type 0

@@ -1,7 +1,7 @@
--- What the standard says of the operators, over the width m: SMT-LIB's theories FixedSizeBitVectors and ArraysEx and its logic QF_BV,
+-- What the standard says of the operators, over the width m: SMT-LIB's theories Core, FixedSizeBitVectors and ArraysEx and its logic QF_BV,
 -- in the words of those texts. BTOR2's operators (CAV 2018, table 1) are these: add, sub, mul, udiv, sdiv, urem, sll, srl are
--- bvadd, bvsub, bvmul, bvudiv, bvsdiv, bvurem, bvshl, bvlshr; and, or, not, ult, eq, uext, read, write are
--- bvand, bvor, bvnot, bvult, =, zero_extend, select, store.
+-- bvadd, bvsub, bvmul, bvudiv, bvsdiv, bvurem, bvshl, bvlshr; and, or, not, ult, eq, uext, ite, read, write are
+-- bvand, bvor, bvnot, bvult, =, zero_extend, ite, select, store. Where these have a Bool, BTOR2 has a vector of width 1, #b1 for true.
 -- Assumes nothing.
 use Prim.Native.Nat.{ℕ, zero, suc, _+_, _-_, _*_, _/_, _%_, _^_, _<_}
 use mathlib.Core.Path.{_≡_}
@@ -75,6 +75,23 @@ module _ (m : ℕ) where
   -- zeros put before a vector of width m
   unfoldable pub zeroExtend : BitVector → BitVector
   zeroExtend s x = cond (ltb x m) (s x) 0
+
+-- Core: ite, at each sort
+unfoldable pub ite : {A : Type 0} → Bool → A → A → A
+ite true a b = a
+ite false a b = b
+
+-- t is the Bool of P: true where P holds, false where not
+pub record Truth (t : Bool) (P : Type 0) : Type 0 where
+  pub yes : t ≡ true → P
+  pub no : t ≡ false → P → ⊥
+
+-- BTOR2: #b1 or #b0, the result of a test; and a condition, which is to be #b1
+abbrev pub testBit : Bool → BitVector
+testBit t = ite t (nat2bv 1) (nat2bv 0)
+
+abbrev pub IsTrue : BitVector → Type 0
+IsTrue c = Equal 1 c (nat2bv 1)
 
 -- the standard's operator of each of the eight
 abbrev pub bitVectorOp : ℕ → Op → BitVector → BitVector → BitVector

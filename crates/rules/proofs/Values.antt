@@ -20,6 +20,9 @@ use Rattle.rules.specs.Legal.{AllLegal}
 use Rattle.rules.specs.Value.{Value, number, memory, num, mem, written, meaning, worth, overIn, over, valueStep, valueBy, value, Fits}
 use Rattle.rules.specs.Demand.{Assigns}
 use Rattle.rules.proofs.Base.{cases-cond, all-map}
+use Rattle.btor.specs.Standard.{nat2bv, ite, Truth, IsTrue}
+use Rattle.btor.specs.Agreement.{ChoiceAgrees}
+use Rattle.btor.proofs.Agreement.{choice-agrees}
 use Rattle.rules.proofs.Words.{compute-fits, complement-fits, fits-word, width-bit, width-word}
 
 -- ---- values that agree on its operands give a row one worth
@@ -40,6 +43,12 @@ meaning-same how State nd u v own h = refl
 meaning-same how Next nd u v own h = h .1 .0
 meaning-same how Input nd u v own h = refl
 meaning-same how Bad nd u v own h = h .0
+
+-- an Ite is worth what SMT-LIB's ite gives of its branches, numbers or memories, where its condition fits sort 1
+pub ite-agrees : (how : Reading) (v : ℕ → Value) (own : Value) (nd : Node) (t : Bool) → num (v (nd .a)) < 2 ^ 1 → Truth t (IsTrue (nat2bv (num (v (nd .a)))))
+    → meaning how Ite v own nd ≡ ite t (v (nd .b)) (v (nd .c))
+unfolding ChoiceAgrees
+ite-agrees how v own nd = choice-agrees Value (num (v (nd .a))) (v (nd .b)) (v (nd .c))
 
 -- what the assignment gives is the node's own value, where it matters
 pub meaning-own : (how : Reading) (K : Kind) (v : ℕ → Value) (own w : Value) (nd : Node) → meaning how K v own nd ≡ w → meaning how K v w nd ≡ w

@@ -4,10 +4,8 @@
 -- Assumes nothing.
 use Prim.Native.Nat.{ℕ, zero, suc, _<_, _^_}
 use mathlib.Core.Path.{_≡_}
-use mathlib.Core.Bool.{cond}
 use mathlib.Core.Logic.{_≢_}
-use lib.Dec.{eqb}
-use Rattle.btor.specs.Operators.{Reading, Memory, compute, both, either, complement, less, same, bit, extend, read, write}
+use Rattle.btor.specs.Operators.{Reading, Memory, compute, both, either, complement, less, same, bit, extend, choose, read, write}
 use Rattle.btor.specs.Sorts.{width}
 use Rattle.rules.specs.Table.{Kind, Const, Read, Write, Word, Ult, Ext, Ite, Eq, And, Or, Not, State, Next, Input, Bad, Node}
 
@@ -35,7 +33,7 @@ meaning how Write v own nd = written (v (nd .a)) (v (nd .b)) (v (nd .c))
 meaning how (Word op) v own nd = number (compute how op (num (v (nd .a))) (num (v (nd .b))))
 meaning how Ult v own nd = number (bit (less (num (v (nd .a))) (num (v (nd .b)))))
 meaning how Ext v own nd = number (extend (num (v (nd .a))))
-meaning how Ite v own nd = cond (eqb (num (v (nd .a))) 1) (v (nd .b)) (v (nd .c))
+meaning how Ite v own nd = choose (num (v (nd .a))) (v (nd .b)) (v (nd .c))
 meaning how Eq v own nd = number (bit (same (num (v (nd .a))) (num (v (nd .b)))))
 meaning how And v own nd = number (both (num (v (nd .a))) (num (v (nd .b))))
 meaning how Or v own nd = number (either (num (v (nd .a))) (num (v (nd .b))))
