@@ -1,25 +1,29 @@
 -- The two calls at work: their premises by computation, the rest by demand 3 and by the assignment that every accepted call has.
 -- Assumes nothing.
 use Prim.Native.Nat.{ℕ}
-use mathlib.Core.Path.{_≡_, refl, sym, ap, ap₂}
+use mathlib.Core.Path.{_≡_, refl, sym, ap, _∙_, subst}
+use mathlib.Core.List.{List, [], _∷_, map}
 use native.Mathlib.Omega.{arith}
+use lib.ListN.{getD}
 use lib.Dec.{lit<}
 use borrow.Author.Tests.{le-ltb}
-use Rattle.btor.specs.Operators.{compute, either, less, bit}
+use Rattle.btor.specs.Operators.{Reading, rust, compute, both, complement, choose, less, bit}
 use Rattle.btor.specs.Sorts.{width, ones}
+use Rattle.rules.specs.Lists.{All}
 use Rattle.rules.specs.Refusal.{Out, refused, done}
+use Rattle.rules.specs.Table.{Node, nodeAt, decode}
 use Rattle.rules.specs.Check.{check, checkNodes, checkSequentials, checkBads}
 use Rattle.rules.specs.Value.{Value, number, num, value, over, overIn}
-use Rattle.rules.specs.Walk.{replaced}
+use Rattle.rules.specs.Walk.{St, Mark, fresh, replaced, Question, Held}
 use Rattle.rules.specs.Questions.{ask, askOr}
-use Rattle.rules.specs.Visit.{visit, process, settle, finish, finishStay, unary, binary, visit1, visit2, takeInput}
+use Rattle.rules.specs.Visit.{visit, process, iteOn, settle, finish, finishStay, unary, binary, visit1, visit2, takeInput}
 use Rattle.rules.specs.Whole.{run, fold, foldBads, judgeBads, judgeSequentials, visitAll, lastQuestion}
-use Rattle.rules.specs.Demand.{worthOf}
+use Rattle.rules.specs.Demand.{worthOf, NonePassed, Faithful, Same, Holds, RepliesHold, Keeps}
 use Rattle.rules.specs.Limits.{Limits, house}
 use Rattle.rules.specs.Sections.{rowsWords, encode, cutSection, rowsOf, cutSix, cut}
 use Rattle.rules.specs.Names.{cutNames, countedNames, namesOf, startsWith}
 use Rattle.rules.specs.Call.{Call, Entry, impl, Accepted, judgeMode, judgeRoom, judgeAndFold, judgeCut, outcome, Demand3OfCall, FaithfulOfCall}
-use Rattle.rules.specs.Worked.{OfAccepted, Premises, Follows, replacedCall, ReplacedWorked, severalCall, SeveralWorked}
+use Rattle.rules.specs.Worked.{OfAccepted, FaithfulTo, HoldIn, valueIn, Premises, Follows, Replaced, replacedRows, replacedHeld, replacedAsked, replacedCall, ReplacedWorked, severalCall, SeveralWorked}
 use Rattle.rules.proofs.Call.{demand3-of-call}
 use Rattle.rules.proofs.Faithful.{faithful-of-call}
 
@@ -36,29 +40,160 @@ not-below x y e = ap (λ b. number (bit b)) (le-ltb x y (omega (arith, e)))
 none-below : (x y : ℕ) → y ≡ 0 → number (bit (less x y)) ≡ number 0
 none-below x y e = ap (λ b. number (bit b)) (le-ltb x y (omega (arith, e)))
 
-neither : (p q r : Value) → p ≡ q → r ≡ number 0 → number (either (bit (less (num p) (num q))) (bit (less (num q) (num r)))) ≡ number 0
-neither p q r e z = ap₂ (λ a b. number (either (num a) (num b))) (not-below (num p) (num q) (ap num e)) (none-below (num q) (num r) (ap num z))
+-- a reply of no asks for nothing
+no : {P : Type 0} → _≡_ {A = ℕ} 0 1 → P
+no e = let z : ⊥ = omega (arith, e) in absurd z
 
 -- ---- the first call
-replaced-premises : OfAccepted Premises (outcome house impl replacedCall)
-unfolding value over overIn worthOf outcome judgeMode encode rowsWords cut cutSix cutSection rowsOf namesOf countedNames cutNames judgeCut judgeRoom startsWith judgeAndFold run check checkNodes checkSequentials checkBads width ones fold foldBads judgeBads judgeSequentials visitAll lastQuestion ask askOr visit process settle finish finishStay unary binary visit1 visit2 takeInput
-replaced-premises = record { passed = refl; replies = λ α f. ((λ _. neither (α 1) (α 0) (α 3) (f .inits .0 refl) (f .same .0)), tt) }
+abbrev table : List Node
+table = map decode replacedRows
 
-replaced-follows : OfAccepted Follows (outcome house impl replacedCall)
-replaced-follows = follows house impl replacedCall (outcome house impl replacedCall) refl replaced-premises
+-- a faithful assignment gives 1 what it gives 0, and 3 its constant; what is asked follows
+module _ (σ : St) (held : σ .held ≡ replacedHeld) (zero : σ .rows 16 .a ≡ 0) (asked : σ .asked ≡ replacedAsked) (α : ℕ → Value) (f : Faithful rust table (2 ∷ []) σ α) where
+  abbrev w : ℕ → Value
+  w = worthOf rust table α σ
+
+  init : α 1 ≡ α 0
+  unfolding value over overIn
+  init = f .inits .0 refl
+
+  took : α 3 ≡ number 0
+  unfolding value over overIn worthOf
+  took = subst (All (Same w)) held (f .same) .0 ∙ ap number zero
+
+  below : number (bit (less (num (α 1)) (num (α 0)))) ≡ number 0
+  below = not-below (num (α 1)) (num (α 0)) (ap num init)
+
+  both-not : number (both (complement 1 (bit (less (num (α 1)) (num (α 0))))) (complement 1 (bit (less (num (α 1)) (num (α 0)))))) ≡ number 1
+  unfolding complement
+  both-not = ap (λ v. number (both (complement 1 (num v)) (complement 1 (num v)))) below
+
+  chosen : choose (bit (less (num (α 1)) (num (α 0)))) (α 0) (α 1) ≡ α 0
+  chosen = ap (λ v. choose (num v) (α 0) (α 1)) below ∙ init
+
+  claims : All (Holds w) replacedAsked
+  unfolding value over overIn worthOf width
+  claims =
+      (no, (no, ((λ _. below), ((λ _. both-not), ((λ _. chosen), (no, ((λ _. not-below _ (num (α 0)) (ap num chosen)), (no, ((λ _. none-below (num (α 0)) (num (α 3)) (ap num took)), tt)))))))))
+
+  replies : RepliesHold rust table α σ
+  replies = subst (All (Holds w)) (sym asked) claims
+
+-- what is computed of the call
+record Facts : Type 0 where
+  reading : Reading
+  table : List Node
+  sequentials : List ℕ
+  stepping : List ℕ
+  held : List Held
+  constant : ℕ
+  asked : List Question
+  stands : List Mark
+  initial : List ℕ
+  dropped : List ℕ
+  passed : ℕ
+
+abbrev factsOf : Accepted → Facts
+factsOf a =
+    record {
+      reading = a .how .reading;
+      table = a .model .table;
+      sequentials = a .model .sequentials;
+      stepping = a .folded .sequentials;
+      held = a .folded .state .held;
+      constant = a .folded .state .rows 16 .a;
+      asked = a .folded .state .asked;
+      stands = map (a .folded .state .mark) (1 ∷ 3 ∷ 6 ∷ 7 ∷ []);
+      initial = a .folded .initial;
+      dropped = a .folded .dropped;
+      passed = a .folded .state .passed;
+    }
+
+abbrev facts : Facts
+facts =
+    record {
+      reading = rust;
+      table = table;
+      sequentials = 2 ∷ [];
+      stepping = [];
+      held = replacedHeld;
+      constant = 0;
+      asked = replacedAsked;
+      stands = replaced 0 ∷ replaced 16 ∷ replaced 15 ∷ replaced 0 ∷ [];
+      initial = 12 ∷ [];
+      dropped = 11 ∷ 13 ∷ [];
+      passed = 0;
+    }
+
+computed : OfAccepted (λ a. factsOf a ≡ facts) (outcome house impl replacedCall)
+unfolding outcome judgeMode encode rowsWords cut cutSix cutSection rowsOf namesOf countedNames cutNames judgeCut judgeRoom startsWith judgeAndFold run check checkNodes checkSequentials checkBads width ones fold foldBads judgeBads judgeSequentials visitAll lastQuestion ask askOr visit process iteOn settle finish finishStay unary binary visit1 visit2 takeInput
+computed = refl {a = facts}
+
+module _ (a : Accepted) (e : factsOf a ≡ facts) where
+  abbrev σ : St
+  σ = a .folded .state
+
+  none-passed : NonePassed (a .how .reading) (a .folded)
+  none-passed = subst (λ how. NonePassed how (a .folded)) (sym (ap (λ x. x .reading) e)) (ap (λ x. x .passed) e)
+
+  hold : (α : ℕ → Value) → FaithfulTo a α → HoldIn a α
+  hold α f =
+      let faithful = subst (λ x. Faithful (x .reading) (x .table) (x .sequentials) σ α) e f in
+      subst (λ x. RepliesHold (x .reading) (x .table) α σ) (sym e) (replies σ (ap (λ x. x .held) e) (ap (λ x. x .constant) e) (ap (λ x. x .asked) e) α faithful)
+
+  presumed : Premises a
+  presumed = record { passed = none-passed; replies = hold }
+
+  module _ (follow : Follows a) (α : ℕ → Value) (f : FaithfulTo a α) where
+    keeps : Keeps rust table (a .folded) α
+    keeps = subst (λ x. Keeps (x .reading) (x .table) (a .folded) α) e (follow .every α f)
+
+    -- the i-th of the marks that are computed is node k's
+    mark-is : (i : ℕ) → getD (map (σ .mark) (1 ∷ 3 ∷ 6 ∷ 7 ∷ [])) i fresh ≡ getD (facts .stands) i fresh
+    mark-is i = ap (λ x. getD (x .stands) i fresh) e
+
+    abbrev v : Facts → ℕ → Value
+    v x k = value (x .reading) (nodeAt (x .table)) α k
+
+    states : (valueIn a α 1 ≡ valueIn a α 0) × (valueIn a α 3 ≡ number 0)
+    unfolding value over overIn worthOf
+    states =
+        subst (λ x. (v x 1 ≡ v x 0) × (v x 3 ≡ number 0)) (sym e)
+        (sym (keeps .replacements 1 0 (lit< tt) (mark-is 0)), sym (keeps .replacements 3 16 (lit< tt) (mark-is 1)) ∙ ap number (ap (λ x. x .constant) e))
+
+    others : (valueIn a α 6 ≡ number 1) × (valueIn a α 7 ≡ valueIn a α 0)
+    unfolding value over overIn worthOf
+    others =
+        subst (λ x. (v x 6 ≡ number 1) × (v x 7 ≡ v x 0)) (sym e)
+        (sym (keeps .replacements 6 15 (lit< tt) (mark-is 2)), sym (keeps .replacements 7 0 (lit< tt) (mark-is 3)))
+
+    conditions : (valueIn a α 4 ≡ number 0) × (valueIn a α 10 ≡ number 0)
+    conditions =
+        let gone = subst (All (λ b. value rust (nodeAt table) α (nodeAt table b .a) ≡ number 0)) (ap (λ x. x .dropped) e) (keeps .dropped) in
+        subst (λ x. (v x 4 ≡ number 0) × (v x 10 ≡ number 0)) (sym e) (gone .0, gone .1 .0)
+
+  worked : Follows a → Replaced a
+  worked follow =
+      record {
+        sequentials = ap (λ x. x .stepping) e;
+        held = ap (λ x. x .held) e;
+        asked = ap (λ x. x .asked) e;
+        initial = ap (λ x. x .initial) e;
+        dropped = ap (λ x. x .dropped) e;
+        premises = presumed;
+        follows = follow;
+        states = states follow;
+        others = others follow;
+        conditions = conditions follow;
+      }
+
+replaced-worked-at : (o : Out Accepted) → outcome house impl replacedCall ≡ o → OfAccepted (λ a. factsOf a ≡ facts) o → OfAccepted Replaced o
+replaced-worked-at (refused r) q e = e
+replaced-worked-at (done a) q e = worked a e (follows house impl replacedCall (done a) q (presumed a e))
 
 pub replaced-worked : ReplacedWorked
-unfolding ReplacedWorked value over overIn worthOf outcome judgeMode encode rowsWords cut cutSix cutSection rowsOf namesOf countedNames cutNames judgeCut judgeRoom startsWith judgeAndFold run check checkNodes checkSequentials checkBads width ones fold foldBads judgeBads judgeSequentials visitAll lastQuestion ask askOr visit process settle finish finishStay unary binary visit1 visit2 takeInput
-replaced-worked =
-    record {
-      sequentials = refl;
-      held = refl;
-      asked = refl;
-      dropped = refl;
-      premises = replaced-premises;
-      follows = replaced-follows;
-      values = λ α f. let k = replaced-follows .every α f in (sym {a = α 0} (k .replacements 1 0 (lit< tt) (refl {a = replaced 0})), sym {a = number 0} (k .replacements 3 10 (lit< tt) (refl {a = replaced 10})), k .dropped .0);
-    }
+unfolding ReplacedWorked
+replaced-worked = replaced-worked-at (outcome house impl replacedCall) refl computed
 
 -- ---- the second
 several-premises : OfAccepted Premises (outcome house impl severalCall)

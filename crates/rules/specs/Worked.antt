@@ -1,15 +1,16 @@
 -- Demand 3 at work: two calls that meet its premises, what each of them replaced, asked and dropped, and what follows.
 --     Premises, Follows     demand 3's two premises, and its conclusion of some assignment and of every faithful one
---     ReplacedWorked        a dropped Next, a state that took an input, and a Bad dropped by a reply that holds
+--     ReplacedWorked        a dropped Next, a state that took an input, and replies of yes to every kind of question that a node or a bad draws
 --     SeveralWorked         one-query with two bads left, and the reply that neither can be
 -- Assumes nothing.
 use Prim.Native.Nat.{ℕ}
 use mathlib.Core.Path.{_≡_}
-use mathlib.Core.List.{[], _∷_}
+use mathlib.Core.List.{List, [], _∷_}
 use Rattle.rules.specs.Refusal.{Out, refused, done}
-use Rattle.rules.specs.Table.{nodeAt}
+use Rattle.rules.specs.Table.{Row, nodeAt}
 use Rattle.rules.specs.Value.{Value, number, value}
-use Rattle.rules.specs.Questions.{satisfiable, several, question}
+use Rattle.rules.specs.Walk.{Question, Held}
+use Rattle.rules.specs.Questions.{alwaysTrue, alwaysFalse, equal, satisfiable, several, question}
 use Rattle.rules.specs.Demand.{NonePassed, Faithful, RepliesHold, Keeps}
 use Rattle.rules.specs.Limits.{house}
 use Rattle.rules.specs.Call.{Call, impl, Accepted, outcome}
@@ -38,27 +39,45 @@ pub record Follows (a : Accepted) : Type 0 where
   pub some : (α : ℕ → Value) × FaithfulTo a α
   pub every : (α : ℕ → Value) → FaithfulTo a α → Keeps (a .how .reading) (a .model .table) (a .folded) α
 
--- ---- 0 an Input, 1 a State with init 0, 2 its Next, which is the State itself, 3 a State that takes the input 0, 4 whether 1 is below 0,
--- 5 whether 0 is below 3, 6 whether either is, 7 a Bad: 6 does not fold, and is never 1 where 1 is 0 and 3 has what it took
+-- ---- 0 an Input, 1 a State with init 0, 2 its Next, which is the State itself, 3 a State that takes the input 0, 4 whether 1 is below 0, 5 whether not,
+-- 6 that twice, 7 if 4 then 0 else 1, 8 whether 7 is below 0, 9 whether 0 is below 3, 10 whether 8 or 9; Bads on 4, 6 and 10. Under minimise.
+-- Where 1 has 0's value and 3 the input's: 4, 8, 9 and 10 are never 1, 6 always is, and 7 is 0's value.
+abbrev pub replacedRows : List Row
+replacedRows =
+    row 21 2 0 0 0 1 ∷ row 19 2 0 1 0 0 ∷ row 20 2 1 1 0 0 ∷ row 19 2 0 0 0 0 ∷ row 12 1 1 0 0 0 ∷ row 18 1 4 0 0 0 ∷ row 16 1 5 5 0 0
+    ∷ row 14 2 4 0 1 0 ∷ row 12 1 7 0 0 0 ∷ row 12 1 0 3 0 0 ∷ row 17 1 8 9 0 0 ∷ row 22 1 4 0 0 0 ∷ row 22 1 6 0 0 0 ∷ row 22 1 10 0 0 0 ∷ []
+
 abbrev pub replacedCall : Call
 replacedCall =
-    callOf 0 (record {
-      rows = row 21 2 0 0 0 1 ∷ row 19 2 0 1 0 0 ∷ row 20 2 1 1 0 0 ∷ row 19 2 0 0 0 0 ∷ row 12 1 1 0 0 0 ∷ row 12 1 0 3 0 0 ∷ row 17 1 4 5 0 0 ∷ row 22 1 6 0 0 0 ∷ [];
+    callOf 1 (record {
+      rows = replacedRows;
       sequentials = 2 ∷ [];
-      initial = 7 ∷ [];
+      initial = 11 ∷ 12 ∷ 13 ∷ [];
       later = [];
       inputs = 0 ∷ [];
-      replies = 1 ∷ [];
+      replies = 0 ∷ 0 ∷ 1 ∷ 1 ∷ 1 ∷ 0 ∷ 1 ∷ 0 ∷ 1 ∷ [];
     })
+
+-- what takes which constant, and what is asked, with the replies of no
+abbrev pub replacedHeld : List Held
+replacedHeld = record { state = 3; by = 16 } ∷ []
+
+abbrev pub replacedAsked : List Question
+replacedAsked =
+    question alwaysTrue 4 0 [] 0 ∷ question alwaysFalse 4 0 [] 0 ∷ question satisfiable 4 0 [] 1 ∷ question alwaysTrue 6 0 [] 1 ∷ question equal 7 0 [] 1
+    ∷ question alwaysTrue 8 0 [] 0 ∷ question alwaysFalse 8 0 [] 1 ∷ question alwaysTrue 9 0 [] 0 ∷ question alwaysFalse 9 0 [] 1 ∷ []
 
 pub record Replaced (a : Accepted) : Type 0 where
   pub sequentials : a .folded .sequentials ≡ []
-  pub held : a .folded .state .held ≡ record { state = 3; by = 10 } ∷ []
-  pub asked : a .folded .state .asked ≡ question satisfiable 6 0 [] 1 ∷ []
-  pub dropped : a .folded .dropped ≡ 7 ∷ []
+  pub held : a .folded .state .held ≡ replacedHeld
+  pub asked : a .folded .state .asked ≡ replacedAsked
+  pub initial : a .folded .initial ≡ 12 ∷ []
+  pub dropped : a .folded .dropped ≡ 11 ∷ 13 ∷ []
   pub premises : Premises a
   pub follows : Follows a
-  pub values : (α : ℕ → Value) → FaithfulTo a α → (valueIn a α 1 ≡ valueIn a α 0) × (valueIn a α 3 ≡ number 0) × (valueIn a α 6 ≡ number 0)
+  pub states : (α : ℕ → Value) → FaithfulTo a α → (valueIn a α 1 ≡ valueIn a α 0) × (valueIn a α 3 ≡ number 0)
+  pub others : (α : ℕ → Value) → FaithfulTo a α → (valueIn a α 6 ≡ number 1) × (valueIn a α 7 ≡ valueIn a α 0)
+  pub conditions : (α : ℕ → Value) → FaithfulTo a α → (valueIn a α 4 ≡ number 0) × (valueIn a α 10 ≡ number 0)
 
 unfoldable pub ReplacedWorked : Type 0
 ReplacedWorked = OfAccepted Replaced (outcome house impl replacedCall)
