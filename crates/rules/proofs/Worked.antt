@@ -1,37 +1,59 @@
 -- The two calls at work: their premises by computation, the rest by demand 3 and by the assignment that every accepted call has.
 -- Assumes nothing.
-use Prim.Native.Nat.{ℕ}
+use Prim.Native.Nat.{ℕ, _<_, _^_}
 use mathlib.Core.Path.{_≡_, refl, sym, ap, _∙_, subst}
+use mathlib.Core.Logic.{_≢_}
+use mathlib.Core.Bool.{true, false}
 use mathlib.Core.List.{List, [], _∷_, map}
 use native.Mathlib.Omega.{arith}
 use lib.ListN.{getD}
-use lib.Dec.{lit<}
-use borrow.Author.Tests.{le-ltb}
+use lib.Dec.{eqb, lit<}
+use borrow.Author.Tests.{eqb-true, le-ltb}
 use Rattle.btor.specs.Operators.{Reading, rust, compute, both, complement, choose, less, bit}
 use Rattle.btor.specs.Sorts.{width, ones}
 use Rattle.rules.specs.Lists.{All}
 use Rattle.rules.specs.Refusal.{Out, refused, done}
 use Rattle.rules.specs.Table.{Node, nodeAt, decode}
 use Rattle.rules.specs.Check.{check, checkNodes, checkSequentials, checkBads}
-use Rattle.rules.specs.Value.{Value, number, num, value, over, overIn}
+use Rattle.rules.specs.Value.{Value, number, num, value, over, overIn, Fits}
 use Rattle.rules.specs.Walk.{St, Mark, fresh, replaced, Question, Held}
 use Rattle.rules.specs.Questions.{ask, askOr}
 use Rattle.rules.specs.Visit.{visit, process, iteOn, settle, finish, finishStay, unary, binary, visit1, visit2, takeInput}
-use Rattle.rules.specs.Whole.{run, fold, foldBads, judgeBads, judgeSequentials, visitAll, lastQuestion}
-use Rattle.rules.specs.Demand.{worthOf, NonePassed, Faithful, Same, Holds, RepliesHold, Keeps}
+use Rattle.rules.specs.Whole.{trivial, run, fold, foldBads, judgeBads, judgeSequentials, visitAll, lastQuestion}
+use Rattle.rules.specs.Demand.{Assigns, worthOf, NonePassed, Faithful, Unreplaced, Same, Holds, RepliesHold, Keeps}
 use Rattle.rules.specs.Limits.{Limits, house}
 use Rattle.rules.specs.Sections.{rowsWords, encode, cutSection, rowsOf, cutSix, cut}
 use Rattle.rules.specs.Names.{cutNames, countedNames, namesOf, startsWith}
-use Rattle.rules.specs.Call.{Call, Entry, impl, Accepted, judgeMode, judgeRoom, judgeAndFold, judgeCut, outcome, Demand3OfCall, FaithfulOfCall}
+use Rattle.rules.specs.Call.{Call, Entry, impl, Accepted, judgeMode, judgeRoom, judgeAndFold, judgeCut, outcome, Demand3OfCall, FaithfulOfCall, SomeAssigns}
 use Rattle.rules.specs.Worked.{OfAccepted, FaithfulTo, HoldIn, valueIn, Premises, Follows, Replaced, replacedRows, replacedHeld, replacedAsked, replacedCall, ReplacedWorked, severalCall, SeveralWorked}
+use Rattle.btor.proofs.Agreement.{cases}
+use Rattle.rules.proofs.Words.{width-word}
 use Rattle.rules.proofs.Call.{demand3-of-call}
-use Rattle.rules.proofs.Faithful.{faithful-of-call}
+use Rattle.rules.proofs.Faithful.{some-assigns, faithful-of-call}
 
--- demand 3, of a call that meets its premises
-follows : (limits : Limits) (entry : Entry) (call : Call) (o : Out Accepted) → outcome limits entry call ≡ o → OfAccepted Premises o → OfAccepted Follows o
+-- ---- demand 3, of a call that meets its premises and whose node 0 is a word that is not replaced
+abbrev Free : Accepted → Type 0
+Free a = (nodeAt (a .model .table) 0 .sort ≡ 2) × Unreplaced (a .model .table) (a .model .sequentials) (a .folded .state) 0
+
+module _ (t : List Node) (x : ℕ) (l : x < 2 ^ 64) (s : nodeAt t 0 .sort ≡ 2) where
+  -- x for node 0
+  abbrev giving : ℕ → Value
+  giving k = elim (eqb k 0) [ true ↦ number x | false ↦ some-assigns t .0 k ]
+
+  giving-fits : Assigns t giving
+  giving-fits k h i =
+      cases (Fits (nodeAt t k .sort)) (eqb k 0)
+      (λ e. subst (λ s. Fits s (number x)) (sym s ∙ ap (λ j. nodeAt t j .sort) (sym (eqb-true k 0 e))) ((λ z. omega arith), subst (λ w. x < 2 ^ w) (sym width-word) l))
+      (λ _. some-assigns t .1 k h i)
+
+follows : (limits : Limits) (entry : Entry) (call : Call) (o : Out Accepted) → outcome limits entry call ≡ o → OfAccepted Premises o → OfAccepted Free o → OfAccepted Follows o
 unfolding Demand3OfCall FaithfulOfCall
-follows limits entry call (refused r) e p = p
-follows limits entry call (done a) e p = record { some = faithful-of-call limits entry call a e; every = demand3-of-call limits entry call a e (p .passed) (p .replies) }
+follows limits entry call (refused r) e p q = p
+follows limits entry call (done a) e p q =
+    record {
+      some = λ x l. let f = faithful-of-call limits entry call a e (giving (a .model .table) x l (q .0)) (giving-fits (a .model .table) x l (q .0)) in (f .0, f .1, f .2 0 (q .1));
+      every = demand3-of-call limits entry call a e (p .passed) (p .replies);
+    }
 
 -- a number is not below itself, and none is below 0
 not-below : (x y : ℕ) → x ≡ y → number (bit (less x y)) ≡ number 0
@@ -144,6 +166,11 @@ module _ (a : Accepted) (e : factsOf a ≡ facts) where
   presumed : Premises a
   presumed = record { passed = none-passed; replies = hold }
 
+  unreplaced-input : Free a
+  unreplaced-input =
+      subst (λ x. (nodeAt (x .table) 0 .sort ≡ 2) × (All (λ s. trivial (x .table) (nodeAt (x .table) s) ≡ true → nodeAt (x .table) s .a ≢ 0) (x .sequentials) × All (λ h. h .state ≢ 0) (x .held))) (sym e)
+      (refl, (((λ _ z. omega (arith, z)), tt), ((λ z. omega (arith, z)), tt)))
+
   module _ (follow : Follows a) (α : ℕ → Value) (f : FaithfulTo a α) where
     keeps : Keeps rust table (a .folded) α
     keeps = subst (λ x. Keeps (x .reading) (x .table) (a .folded) α) e (follow .every α f)
@@ -189,7 +216,7 @@ module _ (a : Accepted) (e : factsOf a ≡ facts) where
 
 replaced-worked-at : (o : Out Accepted) → outcome house impl replacedCall ≡ o → OfAccepted (λ a. factsOf a ≡ facts) o → OfAccepted Replaced o
 replaced-worked-at (refused r) q e = e
-replaced-worked-at (done a) q e = worked a e (follows house impl replacedCall (done a) q (presumed a e))
+replaced-worked-at (done a) q e = worked a e (follows house impl replacedCall (done a) q (presumed a e) (unreplaced-input a e))
 
 pub replaced-worked : ReplacedWorked
 unfolding ReplacedWorked
@@ -200,8 +227,12 @@ several-premises : OfAccepted Premises (outcome house impl severalCall)
 unfolding compute value over overIn worthOf outcome judgeMode encode rowsWords cut cutSix cutSection rowsOf namesOf countedNames cutNames judgeCut judgeRoom startsWith judgeAndFold run check checkNodes checkSequentials checkBads width ones fold foldBads judgeBads judgeSequentials visitAll lastQuestion ask askOr visit process settle finish finishStay unary binary visit1 visit2 takeInput
 several-premises = record { passed = refl; replies = λ α f. ((λ _. (none-below (num (α 0)) 0 refl, (not-below (num (α 0)) (num (α 0)) refl, tt))), tt) }
 
+several-free : OfAccepted Free (outcome house impl severalCall)
+unfolding compute value over overIn worthOf outcome judgeMode encode rowsWords cut cutSix cutSection rowsOf namesOf countedNames cutNames judgeCut judgeRoom startsWith judgeAndFold run check checkNodes checkSequentials checkBads width ones fold foldBads judgeBads judgeSequentials visitAll lastQuestion ask askOr visit process settle finish finishStay unary binary visit1 visit2 takeInput
+several-free = (refl {a = 2}, (tt, tt))
+
 several-follows : OfAccepted Follows (outcome house impl severalCall)
-several-follows = follows house impl severalCall (outcome house impl severalCall) refl several-premises
+several-follows = follows house impl severalCall (outcome house impl severalCall) refl several-premises several-free
 
 pub several-worked : SeveralWorked
 unfolding SeveralWorked compute value over overIn worthOf outcome judgeMode encode rowsWords cut cutSix cutSection rowsOf namesOf countedNames cutNames judgeCut judgeRoom startsWith judgeAndFold run check checkNodes checkSequentials checkBads width ones fold foldBads judgeBads judgeSequentials visitAll lastQuestion ask askOr visit process settle finish finishStay unary binary visit1 visit2 takeInput

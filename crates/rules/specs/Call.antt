@@ -11,11 +11,12 @@ use lib.ListN.{length, replicate}
 use lib.Dec.{ltb}
 use Rattle.rules.specs.Value.{Value}
 use Rattle.rules.specs.Refusal.{Out, refused, done, refuse, _>>=_, unlessRefused}
+use Rattle.rules.specs.Table.{Node}
 use Rattle.rules.specs.Check.{check}
 use Rattle.rules.specs.Model.{Model, Mode, modelOf}
 use Rattle.rules.specs.Whole.{Folded, fold, run}
 use Rattle.rules.specs.Result.{resultWords}
-use Rattle.rules.specs.Demand.{NonePassed, Faithful, RepliesHold, Keeps}
+use Rattle.rules.specs.Demand.{Assigns, NonePassed, Faithful, Unreplaced, RepliesHold, Keeps}
 use Rattle.rules.specs.Limits.{Limits, house, need, highestMode, modeOf}
 use Rattle.rules.specs.Sections.{Sections, cut}
 use Rattle.rules.specs.Names.{namesOf, dump}
@@ -167,8 +168,14 @@ Demand3OfCall =
     → (α : ℕ → Value) → Faithful (a .how .reading) (a .model .table) (a .model .sequentials) (a .folded .state) α
     → Keeps (a .how .reading) (a .model .table) (a .folded) α
 
--- its premises are not said of nothing: every such call has a faithful assignment
+-- it is not said of nothing: whatever an assignment that fits gives the Inputs and the states that are not replaced, some faithful one gives them too
 unfoldable pub FaithfulOfCall : Type 0
 FaithfulOfCall =
     (limits : Limits) (entry : Entry) (call : Call) (a : Accepted) → outcome limits entry call ≡ done a
+    → (β : ℕ → Value) → Assigns (a .model .table) β
     → (α : ℕ → Value) × Faithful (a .how .reading) (a .model .table) (a .model .sequentials) (a .folded .state) α
+    × ((k : ℕ) → Unreplaced (a .model .table) (a .model .sequentials) (a .folded .state) k → α k ≡ β k)
+
+-- and some assignment fits
+abbrev pub SomeAssigns : Type 0
+SomeAssigns = (t : List Node) → (β : ℕ → Value) × Assigns t β

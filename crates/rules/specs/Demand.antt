@@ -5,6 +5,7 @@
 -- Assumes nothing.
 use Prim.Native.Nat.{ℕ, _+_, _<_}
 use mathlib.Core.Path.{_≡_}
+use mathlib.Core.Logic.{_≢_}
 use mathlib.Core.Bool.{Bool, true, false, cond, _||_}
 use mathlib.Core.List.{List, map}
 use lib.ListN.{length}
@@ -44,6 +45,10 @@ pub record Faithful (how : Reading) (t : List Node) (ss : List ℕ) (σ : St) (�
   pub fits : Assigns t α
   pub inits : All (SameInit t (value how (nodeAt t) α)) ss
   pub same : All (Same (worthOf how t α σ)) (σ .held)
+
+-- a state whose Next was not dropped and that took no input, or an Input
+abbrev pub Unreplaced : List Node → List ℕ → St → ℕ → Type 0
+Unreplaced t ss σ k = All (λ s. trivial t (nodeAt t s) ≡ true → nodeAt t s .a ≢ k) ss × All (λ h. h .state ≢ k) (σ .held)
 
 -- "It holds when, by the given table's values, what is asked about is 1 (kind 1), 0 (2, 4, and each bad of 5) or equal (3)."
 abbrev pub Claim : (ℕ → Value) → Question → Type 0

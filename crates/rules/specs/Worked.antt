@@ -3,7 +3,7 @@
 --     ReplacedWorked        a dropped Next, a state that took an input, and replies of yes to every kind of question that a node or a bad draws
 --     SeveralWorked         one-query with two bads left, and the reply that neither can be
 -- Assumes nothing.
-use Prim.Native.Nat.{ℕ}
+use Prim.Native.Nat.{ℕ, _<_, _^_}
 use mathlib.Core.Path.{_≡_}
 use mathlib.Core.List.{List, [], _∷_}
 use Rattle.rules.specs.Refusal.{Out, refused, done}
@@ -35,8 +35,9 @@ pub record Premises (a : Accepted) : Type 0 where
   pub passed : NonePassed (a .how .reading) (a .folded)
   pub replies : (α : ℕ → Value) → FaithfulTo a α → HoldIn a α
 
+-- some assignment is faithful, with any value that fits for the Input 0
 pub record Follows (a : Accepted) : Type 0 where
-  pub some : (α : ℕ → Value) × FaithfulTo a α
+  pub some : (x : ℕ) → x < 2 ^ 64 → (α : ℕ → Value) × FaithfulTo a α × (α 0 ≡ number x)
   pub every : (α : ℕ → Value) → FaithfulTo a α → Keeps (a .how .reading) (a .model .table) (a .folded) α
 
 -- ---- 0 an Input, 1 a State with init 0, 2 its Next, which is the State itself, 3 a State that takes the input 0, 4 whether 1 is below 0, 5 whether not,
