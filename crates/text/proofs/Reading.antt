@@ -2,28 +2,31 @@
 -- By the tests of the rules' definitions, at the buffer's first n numbers.
 --     digit-*            a byte after digits
 --     put-*              a token that ends, at place n of the buffer
+--     kept-*, fed-*      the array beside the state
 --     feed-next          a chunk whose next byte is fed
 --     refused-stays      what is refused first stays, whatever follows
 -- Assumes nothing.
 use Prim.Native.Nat.{ℕ, zero, suc, _+_, _-_, _*_, _^_, _<_, _≤_}
-use mathlib.Core.Path.{_≡_, refl, sym, ap, _∙_}
+use mathlib.Core.Path.{_≡_, refl, sym, ap, ap₂, _∙_}
 use mathlib.Core.Logic.{_⊎_, inl, inr}
 use mathlib.Core.Bool.{Bool, true, false, _&&_}
 use mathlib.Core.Option.{Option, none, some}
-use mathlib.Core.List.{List, [], _∷_}
+use mathlib.Core.List.{List, [], _∷_, _++_}
 use native.Mathlib.Omega.{arith}
 use native.Mathlib.Numerals.{add-one, sub-one}
-use lib.ListN.{length, getD, take, drop, set}
-use lib.Seq.{take-suc, take-suc-set, take-all, length-take-le}
-use lib.Dec.{eqb}
+use lib.ListN.{length, getD, take, drop, set, length-set, take-append-drop}
+use lib.Seq.{take-suc, take-suc-set, take-all, length-take-le, drop-set-lt}
+use lib.Dec.{leb, eqb}
 use borrow.Author.Tests.{lt-ltb, le-ltb, le-leb, lt-leb, ne-eqb}
-use Rattle.rules.specs.Refusal.{Refusal, refused, done, refuse, _>>=_}
+use Rattle.rules.specs.Refusal.{Refusal, Out, refused, done, refuse, _>>=_}
 use Rattle.rules.specs.Text.{mostNumbers, separates, judgeToken, judgeNumber, withMode, numbers}
 use Rattle.rules.specs.Reader.{Reader, Token, between, within, junk, fresh, digitAfter, grown, put, closed, step, feed, readOut}
 use Rattle.rules.proofs.Reader.{feed-append, reader-is}
 use Rattle.text.specs.declared.reader.Numbers.{Numbers as state·Numbers}
+use Rattle.text.specs.declared.reader.Numbers.the-variants.{Whole, NoNumber, TooMany}
 use Rattle.text.specs.declared.reader.Reader.{Reader as state·Reader}
-use Rattle.text.specs.Reading.{tokenOf, readOf, readerOf}
+use Rattle.text.specs.Front.{onFront}
+use Rattle.text.specs.Reading.{tokenOf, readOf, readerOf, fedIn, endedIn}
 
 -- ---- a byte after the digits of x
 module _ (x b : ℕ) where
@@ -85,6 +88,44 @@ module _ (ws : List ℕ) (n : ℕ) (size : length ws ≡ mostNumbers) where
   put-some x h l =
       rw (front h, judge-some n x h l, add-one n, take-suc-set ws n x (omega arith))
 
+-- ---- the array, once a token ends: the numbers at its front, the rest as it was
+pub front-same : (n : ℕ) (ws : List ℕ) → take n ws ++ drop (length (take n ws)) ws ≡ ws
+front-same zero ws = refl
+front-same (suc n) [] = refl
+front-same (suc n) (w ∷ ws) = ap (λ l. w ∷ l) (front-same n ws)
+
+pub kept-same : (read : state·Numbers) (ws : List ℕ) → onFront (readOf read ws) ws ≡ ws
+kept-same (Whole n) ws = front-same n ws
+kept-same (NoNumber place) ws = refl
+kept-same TooMany ws = refl
+
+-- a number at place n
+kept-set : (ws : List ℕ) (n x : ℕ) → n < length ws → onFront (done (take (n + 1) (set ws n x))) ws ≡ set ws n x
+kept-set ws n x h =
+    let size : length (take (n + 1) (set ws n x)) ≡ n + 1 = length-take-le (n + 1) (set ws n x) (omega (arith, length-set ws n x)) in
+    ap (λ k. take (n + 1) (set ws n x) ++ drop k ws) size ∙ ap (λ l. take (n + 1) (set ws n x) ++ l) (sym (drop-set-lt (n + 1) ws n x (omega arith)))
+    ∙ take-append-drop (n + 1) (set ws n x)
+
+module _ (ws : List ℕ) (n : ℕ) (size : length ws ≡ mostNumbers) where
+  pub kept-many : (o : Option ℕ) → mostNumbers ≤ n → onFront (put o (take n ws)) ws ≡ ws
+  kept-many o h = ap (λ r. onFront r ws) (put-many ws n size o h)
+
+  pub kept-first : (x : ℕ) → n ≡ 0 → 7 < x → onFront (put (some x) (take n ws)) ws ≡ ws
+  kept-first x e h = ap (λ r. onFront r ws) (put-first ws n size x e h)
+
+  pub kept-some : (x : ℕ) → n < mostNumbers → ((n ≡ 0 → ⊥) ⊎ (x ≤ 7)) → onFront (put (some x) (take n ws)) ws ≡ set ws n x
+  kept-some x h l = ap (λ r. onFront r ws) (put-some ws n size x h l) ∙ kept-set ws n x (omega arith)
+
+-- a token that is no number is refused wherever it stands
+pub kept-junk : (o : Out (List ℕ)) (ws : List ℕ) → onFront (closed junk o) ws ≡ ws
+unfolding judgeToken
+kept-junk (refused r) ws = refl
+kept-junk (done ns) ws = go (leb mostNumbers (length ns))
+  where
+    go : (t : Bool) → onFront (elim t [ true ↦ refuse 2 0 mostNumbers | false ↦ refuse 1 0 (length ns) ] >>= λ y. done (ns ++ (y ∷ []))) ws ≡ ws
+    go true = refl
+    go false = refl
+
 -- ---- a byte more
 pub step-ends : (r : Reader) (b : ℕ) → separates b ≡ true → step r b ≡ record { read = closed (r .token) (r .read); token = between }
 unfolding step
@@ -121,11 +162,34 @@ feed-next r s t bs i e f h =
 pub feed-all : (r s : Reader) (bs : List ℕ) (i : ℕ) → s ≡ feed r (take i bs) → length bs ≤ i → s ≡ feed r bs
 feed-all r s bs i e h = e ∙ ap (λ l. feed r l) (take-all i bs h)
 
+-- ---- the array beside it
+fed-append : (r : Reader) (bs : List ℕ) (b : ℕ) (ws : List ℕ) → fedIn r (bs ++ (b ∷ [])) ws ≡ onFront (step (feed r bs) b .read) (fedIn r bs ws)
+unfolding fedIn feed
+fed-append r [] b ws = refl
+fed-append r (c ∷ bs) b ws = fed-append (step r c) bs b (onFront (step r c .read) ws)
+
+pub fed-none : (r : Reader) (bs ws : List ℕ) → ws ≡ fedIn r (take 0 bs) ws
+unfolding fedIn
+fed-none r bs ws = refl
+
+pub fed-next : (r s : Reader) (bs ws vs us : List ℕ) (i : ℕ) → s ≡ feed r (take i bs) → vs ≡ fedIn r (take i bs) ws → us ≡ onFront (step s (getD bs i 0) .read) vs
+    → i < length bs → us ≡ fedIn r (take (i + 1) bs) ws
+fed-next r s bs ws vs us i e f g h =
+    g ∙ ap₂ (λ q l. onFront (step q (getD bs i 0) .read) l) e f ∙ sym (fed-append r (take i bs) (getD bs i 0) ws)
+    ∙ ap (λ l. fedIn r l ws) (sym (take-suc bs i 0 h) ∙ ap (λ n. take n bs) (sym (add-one i)))
+
+pub fed-all : (r : Reader) (bs ws vs : List ℕ) (i : ℕ) → vs ≡ fedIn r (take i bs) ws → length bs ≤ i → vs ≡ fedIn r bs ws
+fed-all r bs ws vs i e h = e ∙ ap (λ l. fedIn r l ws) (take-all i bs h)
+
 -- ---- the end of the bytes: the token ends, then the mode is taken off
 pub finished : (s : state·Reader) (ws vs : List ℕ) (r q : state·Numbers) → r ≡ q → readOf r vs ≡ closed (tokenOf (s .token)) (readOf (s .read) ws)
     → (readOf q vs >>= withMode) ≡ readOut (readerOf s ws)
 unfolding readerOf
 finished s ws vs r q e f = ap (λ o. o >>= withMode) (ap (λ p. readOf p vs) (sym e) ∙ f)
+
+pub ended : (s : state·Reader) (ws : List ℕ) → onFront (closed (tokenOf (s .token)) (readOf (s .read) ws)) ws ≡ endedIn (readerOf s ws) ws
+unfolding readerOf
+ended s ws = refl
 
 -- ---- after a refusal the rest of the bytes is ignored
 closed-refused : (k : Token) (q : Refusal) → closed k (refused q) ≡ refused q
@@ -149,3 +213,7 @@ refused-stays r q (b ∷ bs) e =
 -- a text from its first byte to its last
 pub whole-text : (s t : state·Reader) (ws vs bs : List ℕ) → readerOf s ws ≡ fresh → readerOf t vs ≡ feed (readerOf s ws) bs → readOut (readerOf t vs) ≡ numbers bs
 whole-text s t ws vs bs e f = ap readOut (f ∙ ap (λ r. feed r bs) e) ∙ reader-is bs
+
+pub text-ended : (s t : state·Reader) (ws vs us bs : List ℕ) → readerOf s ws ≡ fresh → readerOf t vs ≡ feed (readerOf s ws) bs → vs ≡ fedIn (readerOf s ws) bs ws
+    → us ≡ endedIn (readerOf t vs) vs → us ≡ endedIn (feed fresh bs) (fedIn fresh bs ws)
+text-ended s t ws vs us bs e f g h = h ∙ ap₂ endedIn (f ∙ ap (λ r. feed r bs) e) (g ∙ ap (λ r. fedIn r bs ws) e)

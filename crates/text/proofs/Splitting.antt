@@ -14,8 +14,8 @@ use mathlib.Core.List.{List, [], _∷_, _++_}
 use native.Mathlib.Omega.{arith}
 use native.Mathlib.Nat.{mul-comm, div-lt-iff-lt-mul, le-div-iff-mul-le}
 use native.Mathlib.Numerals.{add-one}
-use lib.ListN.{length, getD, take, drop, set, length-drop, drop-of-length-le}
-use lib.Seq.{drop-cons, take-suc, take-suc-set, take-all, take-nil, length-take-le}
+use lib.ListN.{length, getD, take, drop, set, length-drop, drop-of-length-le, take-append-drop}
+use lib.Seq.{drop-cons, take-suc, take-suc-set, take-all, take-nil, take-at, length-take-le, drop-set-lt, drop-drop}
 use lib.Dec.{ltb}
 use borrow.Author.Tests.{ltb-true, lt-ltb, le-ltb}
 use Rattle.rules.specs.Refusal.{Refusal, Out, refused, done, refuse, _>>=_}
@@ -32,6 +32,7 @@ use Rattle.rules.proofs.NameWalk.{fault, faultFrom}
 use Rattle.text.specs.declared.split.Judged.{Judged}
 use Rattle.text.specs.declared.split.Names.{Names}
 use Rattle.rules.proofs.Base.{and-both}
+use Rattle.text.specs.Front.{onFront}
 use Rattle.text.specs.Splitting.{cutAfter, restOf, Judges, cutAll, counted, bytesAfter, Lent, bytesIn}
 
 -- ---- one section at a place
@@ -179,11 +180,25 @@ value-put out values count i e h l =
     ap (λ n. take n (set out (i + 2) (getD values i 0))) n ∙ take-suc-set out (i + 2) (getD values i 0) l ∙ ap (λ l. l ++ (getD values i 0 ∷ [])) e
     ∙ ap (λ l. counted count l) (sym (take-suc values i 0 h) ∙ ap (λ n. take n values) (sym (add-one i)))
 
-pub values-put : (out values : List ℕ) (count i : ℕ) → take (i + 2) out ≡ counted count (take i values) → i ≤ length values → length values ≤ i
-    → take (length values + 2) out ≡ counted count values
-values-put out values count i e h l =
-    let n : length values ≡ i = omega arith in
-    ap (λ n. take (n + 2) out) n ∙ e ∙ ap (λ l. counted count l) (take-all i values l)
+-- what stands behind them is as it was
+pub rest-put : (out begun : List ℕ) (i v : ℕ) → drop (i + 2) out ≡ drop (i + 2) begun → drop (i + 1 + 2) (set out (i + 2) v) ≡ drop (i + 1 + 2) begun
+rest-put out begun i v e =
+    let n : i + 1 + 2 ≡ i + 2 + 1 = omega arith in
+    drop-set-lt (i + 1 + 2) out (i + 2) v (omega arith) ∙ ap (λ n. drop n out) n ∙ sym (drop-drop 1 (i + 2) out) ∙ ap (λ l. drop 1 l) e ∙ drop-drop 1 (i + 2) begun
+    ∙ ap (λ n. drop n begun) (sym n)
+
+pub values-put : (out entry values : List ℕ) (count i low high : ℕ) → take (i + 2) out ≡ counted count (take i values) → drop (i + 2) out ≡ drop (i + 2) (set (set entry 0 low) 1 high)
+    → i ≤ length values → length values ≤ i → out ≡ onFront (done (counted count values)) entry
+values-put out entry values count i low high e f h l =
+    let n : i + 2 ≡ suc (suc (length values)) = omega arith in
+    sym (take-append-drop (i + 2) out)
+    ∙ ap₂ _++_ (e ∙ ap (λ l. counted count l) (take-all i values l)) (f ∙ drop-set-lt (i + 2) (set entry 0 low) 1 high (omega arith) ∙ drop-set-lt (i + 2) entry 0 low (omega arith) ∙ ap (λ n. drop n entry) n)
+
+-- so many bytes of them
+pub counted-front : (count : ℕ) (values entry : List ℕ) → take (length values + 2) (onFront (done (counted count values)) entry) ≡ counted count values
+counted-front count values entry =
+    let n : length (counted count values) ≡ length values + 2 = omega arith in
+    take-at (counted count values) (drop (length (counted count values)) entry) (length values + 2) n
 
 -- ---- the names after their count
 bytes-append : (xs ys : List ℕ) → allBytes (xs ++ ys) ≡ (allBytes xs && allBytes ys)

@@ -1,3 +1,4 @@
+pub mod Front
 pub mod Reading
 pub mod Printing
 pub mod Splitting

@@ -1,6 +1,6 @@
 // Decimal numbers out of bytes that arrive in chunks: a state by value, and the numbers in a lent array of 4,096. Numbers may have any
-// count of leading zeros, blanks any length. The first refusal stays, whatever follows. What the array holds past the numbers that are
-// read, and after a refusal, is left free.
+// count of leading zeros, blanks any length. The first refusal stays, whatever follows. The numbers read before it stay at the array's front,
+// and every other word of the array is as it was.
 ghost use mathlib.Core.Path.{_≡_};
 ghost use mathlib.Core.List.{List};
 ghost use mathlib.Core.Option.{none, some};
@@ -8,7 +8,8 @@ ghost use Prim.Native.Nat.{ℕ};
 ghost use lib.ListN.{length, take};
 ghost use Rattle.rules.specs.Text.{mostNumbers, separates as Text·separates, withMode, numbers as Text·numbers};
 ghost use Rattle.rules.specs.Reader as rules;
-ghost use Rattle.text.specs.Reading.{tokenOf, readOf, readerOf, answerOf, Some};
+ghost use Rattle.text.specs.Front.{onFront};
+ghost use Rattle.text.specs.Reading.{tokenOf, readOf, readerOf, fedIn, endedIn, answerOf, Some};
 
 // The token that is being read.
 pub enum Token {
@@ -99,6 +100,7 @@ fn most(numbers: &[u64; 4096]) -> usize
 // A number at the next place of the array, which is judged first.
 fn put_at(n: usize, x: u64, numbers: &mut [u64; 4096]) -> Numbers
     ensures { λ r. ⌜ readOf r (now (numbers .exit)) ≡ rules.put (some x) (take n (now (numbers .entry))) ⌝ }
+    ensures { λ _. ⌜ now (numbers .exit) ≡ onFront (rules.put (some x) (take n (now (numbers .entry)))) (now (numbers .entry)) ⌝ }
 {
     if n >= most(numbers) {
         return Numbers::TooMany;
@@ -115,6 +117,7 @@ fn put_at(n: usize, x: u64, numbers: &mut [u64; 4096]) -> Numbers
 // A number that ends.
 fn put_number(read: Numbers, x: u64, numbers: &mut [u64; 4096]) -> Numbers
     ensures { λ r. ⌜ readOf r (now (numbers .exit)) ≡ rules.closed (rules.within x) (readOf read (now (numbers .entry))) ⌝ }
+    ensures { λ _. ⌜ now (numbers .exit) ≡ onFront (rules.closed (rules.within x) (readOf read (now (numbers .entry)))) (now (numbers .entry)) ⌝ }
 {
     match read {
         Numbers::Whole(n) => put_at(n, x, numbers),
@@ -147,6 +150,7 @@ fn put_junk(read: Numbers, numbers: &[u64; 4096]) -> Numbers
 // A token that ends.
 fn closed(token: Token, read: Numbers, numbers: &mut [u64; 4096]) -> Numbers
     ensures { λ r. ⌜ readOf r (now (numbers .exit)) ≡ rules.closed (tokenOf token) (readOf read (now (numbers .entry))) ⌝ }
+    ensures { λ _. ⌜ now (numbers .exit) ≡ onFront (rules.closed (tokenOf token) (readOf read (now (numbers .entry)))) (now (numbers .entry)) ⌝ }
 {
     match token {
         Token::Between => read,
@@ -158,6 +162,7 @@ fn closed(token: Token, read: Numbers, numbers: &mut [u64; 4096]) -> Numbers
 // One byte more.
 fn step(reader: Reader, b: u8, numbers: &mut [u64; 4096]) -> Reader
     ensures { λ r. ⌜ readerOf r (now (numbers .exit)) ≡ rules.step (readerOf reader (now (numbers .entry))) b ⌝ }
+    ensures { λ _. ⌜ now (numbers .exit) ≡ onFront (rules.step (readerOf reader (now (numbers .entry))) b .read) (now (numbers .entry)) ⌝ }
 {
     let read = reader.read;
     let token = reader.token;
@@ -175,6 +180,7 @@ fn step(reader: Reader, b: u8, numbers: &mut [u64; 4096]) -> Reader
 // A chunk of bytes more. How the bytes are cut into chunks does not matter.
 pub fn feed(reader: Reader, chunk: &[u8], numbers: &mut [u64; 4096]) -> Reader
     ensures { λ r. ⌜ readerOf r (now (numbers .exit)) ≡ rules.feed (readerOf reader (now (numbers .entry))) (now (chunk .entry)) ⌝ }
+    ensures { λ _. ⌜ now (numbers .exit) ≡ fedIn (readerOf reader (now (numbers .entry))) (now (chunk .entry)) (now (numbers .entry)) ⌝ }
 {
     let mut state = reader;
     let mut i = 0;
@@ -202,6 +208,7 @@ fn counted(n: usize, numbers: &[u64; 4096]) -> Numbers
 // At the end of the bytes: how many numbers there are, the mode among them, or the first refusal.
 pub fn finish(reader: Reader, numbers: &mut [u64; 4096]) -> Numbers
     ensures { λ r. ⌜ (answerOf r (now (numbers .exit)) ≡ rules.readOut (readerOf reader (now (numbers .entry)))) × Some r ⌝ }
+    ensures { λ _. ⌜ now (numbers .exit) ≡ endedIn (readerOf reader (now (numbers .entry))) (now (numbers .entry)) ⌝ }
 {
     let read = reader.read;
     let token = reader.token;
@@ -215,6 +222,7 @@ pub fn finish(reader: Reader, numbers: &mut [u64; 4096]) -> Numbers
 // The whole text at once.
 pub fn read_text(bytes: &[u8], numbers: &mut [u64; 4096]) -> Numbers
     ensures { λ r. ⌜ (answerOf r (now (numbers .exit)) ≡ Text·numbers (now (bytes .entry))) × Some r ⌝ }
+    ensures { λ _. ⌜ now (numbers .exit) ≡ endedIn (rules.feed rules.fresh (now (bytes .entry))) (fedIn rules.fresh (now (bytes .entry)) (now (numbers .entry))) ⌝ }
 {
     let reader = feed(start(), bytes, numbers);
     finish(reader, numbers)

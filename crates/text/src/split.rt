@@ -1,11 +1,13 @@
 // From the numbers of a text to a call: where sections 1 to 6 end in the numbers after the mode, and the names, which follow them as
-// numbers, as bytes in a lent array. What the array holds past the bytes, and after a refusal, is left free.
+// numbers, as bytes at the front of a lent array, whose other bytes stay; after a refusal all of it is as it was.
 ghost use mathlib.Core.Path.{_≡_};
 ghost use mathlib.Core.Bool.{true};
 ghost use Prim.Native.Nat.{_+_, _-_, _<_, _≤_};
 ghost use lib.ListN.{length, take, drop};
+ghost use Rattle.rules.specs.Refusal.{done};
 ghost use Rattle.rules.specs.Limits.{house};
 ghost use Rattle.rules.specs.Text.{allBytes};
+ghost use Rattle.text.specs.Front.{onFront};
 ghost use Rattle.text.specs.Splitting.{endOf, Inside, cutAfter, restOf, Judges, cutAll, counted, bytesAfter, namesOf, Lent, bytesIn};
 
 // Where a section ends, or which section is refused.
@@ -119,7 +121,7 @@ fn all_bytes(values: &[u64]) -> bool
 // The names bytes at the front of the buffer: the count in two bytes, low byte first, then the values.
 fn put_names(count: u64, values: &[u64], out: &mut [u8])
     requires { ⌜ (count ≤ 4096) × (length (now values) + 2 ≤ length (now out)) × (allBytes (now values) ≡ true) ⌝ }
-    ensures { λ _. ⌜ take (length (now (values .entry)) + 2) (now (out .exit)) ≡ counted count (now (values .entry)) ⌝ }
+    ensures { λ _. ⌜ now (out .exit) ≡ onFront (done (counted count (now (values .entry)))) (now (out .entry)) ⌝ }
 {
     out[0] = (count % 256) as u8;
     out[1] = (count / 256) as u8;
@@ -134,6 +136,7 @@ fn put_names(count: u64, values: &[u64], out: &mut [u8])
 fn names_after(count: u64, values: &[u64], out: &mut [u8]) -> Names
     requires { ⌜ length (now values) + 2 ≤ length (now out) ⌝ }
     ensures { λ r. ⌜ (namesOf r (now (out .exit)) ≡ bytesAfter house count (now (values .entry))) × Lent r (length (now (out .entry))) ⌝ }
+    ensures { λ _. ⌜ now (out .exit) ≡ onFront (bytesAfter house count (now (values .entry))) (now (out .entry)) ⌝ }
 {
     if count > 4096 {
         return Names::NamesOver;
@@ -155,6 +158,7 @@ fn names_after(count: u64, values: &[u64], out: &mut [u8]) -> Names
 fn names_in(numbers: &[u64], out: &mut [u8]) -> Names
     requires { ⌜ length (now numbers) < length (now out) ⌝ }
     ensures { λ r. ⌜ (namesOf r (now (out .exit)) ≡ bytesIn house (now (numbers .entry))) × Lent r (length (now (out .entry))) ⌝ }
+    ensures { λ _. ⌜ now (out .exit) ≡ onFront (bytesIn house (now (numbers .entry))) (now (out .entry)) ⌝ }
 {
     if numbers.len() == 0 {
         return Names::NamesShort;
@@ -166,6 +170,7 @@ fn names_in(numbers: &[u64], out: &mut [u8]) -> Names
 // The names that stand in the numbers from one place to another, as bytes at the front of the array.
 pub fn names_bytes(numbers: &[u64; 4096], from: usize, to: usize, out: &mut [u8; 4097]) -> Names
     ensures { λ r. ⌜ (namesOf r (now (out .exit)) ≡ bytesIn house (take (to - from) (drop from (now (numbers .entry))))) × Lent r 4097 ⌝ }
+    ensures { λ _. ⌜ now (out .exit) ≡ onFront (bytesIn house (take (to - from) (drop from (now (numbers .entry))))) (now (out .entry)) ⌝ }
 {
     let kept: &[u64] = numbers;
     let room: &mut [u8] = out;

@@ -2,7 +2,7 @@
 -- Assumes nothing.
 use borrow.Author.Needs.{needs}
 use mathlib.Core.Path.{_∙_}
-use Rattle.text.proofs.Reading.{finished}
+use Rattle.text.proofs.Reading.{finished, ended}
 use Rattle.text.proofs.reader.finish.Statement.{statement}
 use Rattle.text.proofs.reader.finish.Tie as tie
 
@@ -25,15 +25,17 @@ returns : tie.Need-returns
 returns c =
     let at-n = c .before .before .before in
     let at-closed = at-n .before .before in
-    (c .counted .ensures .0 ∙ finished _ _ _ _ _ (at-n .n .given .1) (at-closed .closed .ensures), c .counted .ensures .1)
+    ((c .counted .ensures .0 ∙ finished _ _ _ _ _ (at-n .n .given .1) (at-closed .closed .ensures .0), c .counted .ensures .1), at-closed .closed .ensures .1 ∙ ended (at-closed .before .before .args .reader) (at-closed .before .before .args .numbers .now))
 
 returns-2 : tie.Need-returns-2
 returns-2 c =
     let at-closed = c .before .before .before in
-    (finished _ _ _ _ _ (c .before .place .given .1) (at-closed .closed .ensures), tt)
+    ((finished _ _ _ _ _ (c .before .place .given .1) (at-closed .closed .ensures .0), tt), at-closed .closed .ensures .1 ∙ ended (at-closed .before .before .args .reader) (at-closed .before .before .args .numbers .now))
 
 returns-3 : tie.Need-returns-3
-returns-3 c = (finished _ _ _ _ _ (c .enum-told .given .1) (c .before .before .closed .ensures), tt)
+returns-3 c =
+    let at-closed = c .before .before in
+    ((finished _ _ _ _ _ (c .enum-told .given .1) (at-closed .closed .ensures .0), tt), at-closed .closed .ensures .1 ∙ ended (at-closed .before .before .args .reader) (at-closed .before .before .args .numbers .now))
 
 pub finish-spec : {M : Type 1} → statement M
 finish-spec =

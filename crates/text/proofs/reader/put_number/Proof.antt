@@ -19,10 +19,10 @@ enum-told c = search needs
 returns : tie.Need-returns
 returns c =
     let at-read = c .before .before .before in
-    rw (at-read .read .given .1) (c .put-at .ensures)
+    (rw (at-read .read .given .1) (c .put-at .ensures .0), rw (at-read .read .given .1) (c .put-at .ensures .1))
 
 returns-2 : tie.Need-returns-2
-returns-2 c = rw (c .before .read2 .given .1)
+returns-2 c = (rw (c .before .read2 .given .1), rw (c .before .read2 .given .1))
 
 returns-3 : tie.Need-returns-3
 returns-3 c = search needs

@@ -3,6 +3,7 @@
 use borrow.Author.Needs.{needs}
 use mathlib.Core.Path.{sym, ap, _∙_}
 use Rattle.rules.specs.Limits.{house}
+use Rattle.text.specs.Front.{onFront}
 use Rattle.text.specs.Splitting.{bytesIn}
 use Rattle.text.proofs.Splitting.{part-past, part-none, part-rest, lent-in}
 use mathlib.Core.Path.{_≡_}
@@ -13,12 +14,16 @@ use Rattle.text.proofs.split.names_bytes.Tie as tie
 returns : tie.Need-returns
 returns c =
     let start = c .before .before .before in
-    (sym (part-past (start .args .numbers .now) _ _ (c .if1 .taken)), tt)
+    let a = start .args in
+    let past = part-past (a .numbers .now) (a .from) (a .to) (c .if1 .taken) in
+    ((sym past, tt), sym (ap (λ o. onFront o (a .out .now)) past))
 
 returns-2 : tie.Need-returns-2
 returns-2 c =
     let start = c .before .before .before .before in
-    (sym (part-none (start .args .numbers .now) _ _ (c .if2 .taken)), tt)
+    let a = start .args in
+    let none = part-none (a .numbers .now) (a .from) (a .to) (c .if2 .taken) in
+    ((sym none, tt), sym (ap (λ o. onFront o (a .out .now)) none))
 
 mul-names-in : tie.Need-mul-names-in
 mul-names-in c = search needs
@@ -39,7 +44,10 @@ returns-3 : tie.Need-returns-3
 returns-3 c =
     let start = c .before .before .before .before .before .before .before in
     let e : length (start .args .out .now) ≡ 4097 = search needs in
-    (c .names-in .ensures .0 ∙ ap (λ l. bytesIn house l) (part-rest (start .args .numbers .now) _ _ (c .before .before .if3 .taken)), lent-in (c .names-in .result) _ _ e (c .names-in .ensures .1))
+    let a = start .args in
+    let rest = ap (λ l. bytesIn house l) (part-rest (a .numbers .now) (a .from) (a .to) (c .before .before .if3 .taken)) in
+    let told = c .names-in .ensures in
+    ((told .0 .0 ∙ rest, lent-in (c .names-in .result) _ _ e (told .0 .1)), told .1 ∙ ap (λ o. onFront o (a .out .now)) rest)
 
 mul-names-in-2 : tie.Need-mul-names-in-2
 mul-names-in-2 c = search needs
@@ -60,7 +68,8 @@ returns-4 : tie.Need-returns-4
 returns-4 c =
     let start = c .before .before .before .before .before .before .before in
     let e : length (start .args .out .now) ≡ 4097 = search needs in
-    (c .names-in2 .ensures .0, lent-in (c .names-in2 .result) _ _ e (c .names-in2 .ensures .1))
+    let told = c .names-in2 .ensures in
+    ((told .0 .0, lent-in (c .names-in2 .result) _ _ e (told .0 .1)), told .1)
 
 pub names-bytes-spec : {M : Type 1} → statement M
 names-bytes-spec =

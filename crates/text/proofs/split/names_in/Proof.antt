@@ -1,8 +1,9 @@
 -- `names_in` meets its contract: the first number is the count.
 -- Assumes nothing.
 use borrow.Author.Needs.{needs}
-use mathlib.Core.Path.{sym, _∙_}
+use mathlib.Core.Path.{sym, ap, _∙_}
 use native.Mathlib.Omega.{arith}
+use Rattle.text.specs.Front.{onFront}
 use Rattle.text.proofs.Splitting.{rest-size, in-none, in-some}
 use Rattle.text.proofs.split.names_in.Statement.{statement}
 use Rattle.text.proofs.split.names_in.Tie as tie
@@ -10,7 +11,8 @@ use Rattle.text.proofs.split.names_in.Tie as tie
 returns : tie.Need-returns
 returns c =
     let start = c .before .before .before in
-    (sym (in-none (start .args .numbers .now) (c .if1 .taken)), tt)
+    let none = in-none (start .args .numbers .now) (c .if1 .taken) in
+    ((sym none, tt), sym (ap (λ o. onFront o (start .args .out .now)) none))
 
 shared-slice-read-count : tie.Need-shared-slice-read-count
 shared-slice-read-count c = search needs
@@ -36,7 +38,9 @@ returns-2 : tie.Need-returns-2
 returns-2 c =
     let at-if1 = c .before .before .before .before .before .before in
     let start = at-if1 .before .before .before in
-    (c .before .before .names-after .ensures .0 ∙ in-some (start .args .numbers .now) (at-if1 .if1 .left), c .before .before .names-after .ensures .1)
+    let after = c .before .before .names-after .ensures in
+    let some = in-some (start .args .numbers .now) (at-if1 .if1 .left) in
+    ((after .0 .0 ∙ some, after .0 .1), after .1 ∙ ap (λ o. onFront o (start .args .out .now)) some)
 
 pub names-in-spec : {M : Type 1} → statement M
 names-in-spec =
