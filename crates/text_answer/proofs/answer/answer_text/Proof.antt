@@ -12,7 +12,7 @@ answer-requires : tie.Need-answer-requires
 answer-requires c κs = search needs
 
 returns : tie.Need-returns
-returns c = shown-as (text-program _ _ ((c .before .before .before .read-text) .ensures .0)) ((c .answer) .ensures)
+returns c = shown-as (text-program _ _ ((c .before .before .before .read-text) .ensures .0 .0)) ((c .answer) .ensures)
 
 pub answer-text-spec : {M : Type 1} → statement M
 answer-text-spec = tie.close (tie.spec read-text-requires answer-requires returns)

@@ -41,24 +41,24 @@ part-call-end : tie.Need-part-call-end
 part-call-end c = search needs
 
 call-requires : tie.Need-call-requires
-call-requires c κs = lent _ _ 4097 ((c .before .before .before .before .size) .given .1) ((c .before .before .before .before .before .before .names-bytes) .ensures .1)
+call-requires c κs = lent _ _ 4097 ((c .before .before .before .before .size) .given .1) ((c .before .before .before .before .before .before .names-bytes) .ensures .0 .1)
 
 returns : tie.Need-returns
 returns c =
     let start = (c .before .before .before .before .before .before .before) in
-    shown-out (names-stop _ (start .args .numbers .now) (start .args .count) (start .args .end) _ _ (start .pre .0 .3) (start .pre .1) ((c .before .before .before .before .names-bytes) .ensures .0) _ _ ((c .before .before .enum-told) .given .1) refl) ((c .refused) .ensures)
+    shown-out (names-stop _ (start .args .numbers .now) (start .args .count) (start .args .end) _ _ (start .pre .0 .3) (start .pre .1) ((c .before .before .before .before .names-bytes) .ensures .0 .0) _ _ ((c .before .before .enum-told) .given .1) refl) ((c .refused) .ensures)
 
 returns-2 : tie.Need-returns-2
 returns-2 c =
     let start = (c .before .before .before .before .before .before .before) in
-    shown-out (names-stop _ (start .args .numbers .now) (start .args .count) (start .args .end) _ _ (start .pre .0 .3) (start .pre .1) ((c .before .before .before .before .names-bytes) .ensures .0) _ _ ((c .before .before .enum-told2) .given .1) refl) ((c .refused2) .ensures)
+    shown-out (names-stop _ (start .args .numbers .now) (start .args .count) (start .args .end) _ _ (start .pre .0 .3) (start .pre .1) ((c .before .before .before .before .names-bytes) .ensures .0 .0) _ _ ((c .before .before .enum-told2) .given .1) refl) ((c .refused2) .ensures)
 
 returns-3 : tie.Need-returns-3
 returns-3 c =
     let start = (c .before .before .before .before .before .before .before .before .before .before) in
     let ws = start .args .numbers .now in
     let e : length ws ≡ 4096 = search needs in
-    shown-out (names-go _ ws (start .args .count) (start .args .end) _ _ (start .pre .0 .3) (start .pre .1) ((c .before .before .before .before .before .before .before .names-bytes) .ensures .0) _ ((c .before .before .before .before .before .size) .given .1) e (start .pre .0 .1) (start .pre .0 .2)) ((c .call) .ensures)
+    shown-out (names-go _ ws (start .args .count) (start .args .end) _ _ (start .pre .0 .3) (start .pre .1) ((c .before .before .before .before .before .before .before .names-bytes) .ensures .0 .0) _ ((c .before .before .before .before .before .size) .given .1) e (start .pre .0 .1) (start .pre .0 .2)) ((c .call) .ensures)
 
 pub with-names-spec : {M : Type 1} → statement M
 with-names-spec =
