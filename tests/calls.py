@@ -1,5 +1,5 @@
 #!/usr/bin/env python3
-"""Whole calls of the three entry points, each with every word that document 01 has it leave.
+"""Whole calls of the three entry points, each with every word that it leaves by docs/FORMAT.md.
 
     tests/calls.py list                 the kept list, crates/call_limits/data/calls.list
     tests/calls.py compare PROGRAM      the calls that fit the text form, answered by `PROGRAM answer` (oracle/README.md)

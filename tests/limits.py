@@ -1,5 +1,5 @@
 #!/usr/bin/env python3
-"""The cases of crates/table_limits, each with its answer as document 01 has it.
+"""The cases of crates/table_limits, each with the answer that docs/FORMAT.md demands.
 
     tests/limits.py list                the kept list, data/limits.list
     tests/limits.py compare PROGRAM     the calls that fit the text form, answered by `PROGRAM answer` (oracle/README.md)
@@ -629,7 +629,7 @@ call('nodes_before_lists', (5, 1, 1), sections([node(CONST, BIT), node(CONST, ME
 call('lists_of_an_empty_table', (6, 2, 0), sections([], [0], [0], [0]))
 call('inputs_and_replies_are_not_judged', ACCEPTED, sections(SMALL, [2], [4], [4], [MOST, 0], [MOST, 3]))
 
-# --- the call of document 01's example
+# --- the call of the worked example (docs/FORMAT.md)
 
 call('the_papers_example', ACCEPTED,
      sections([node(STATE, WORD, name=1), node(CONST, WORD, 12), node(ULT, BIT, 0, 1), node(BAD, BIT, 2)],

@@ -1,4 +1,4 @@
-// A text's answer: refusals 1 to 7 and 12 by document 01, all else by the published Rust; and how the program prints it.
+// A text's answer: refusals 1 to 7 and 12 as docs/FORMAT.md has them, all else by the published Rust; and how the program prints it.
 
 use crate::fold::{self, Sections};
 use crate::table::{Refusal, Table};

@@ -1,4 +1,4 @@
-// A house table, read from text and judged: refusals 1 to 7 and 12, which the published Rust lacks.
+// A table, read from text and judged: refusals 1 to 7 and 12, of which the published Rust has little.
 
 #[derive(Clone, Copy, Debug, PartialEq)]
 pub struct Refusal {

@@ -48,7 +48,7 @@ pub fn tokens(numbers: &[u64]) -> Tokens {
     numbers.iter().map(|number| number.to_string().into_bytes()).collect()
 }
 
-// A line for each section, as document 01 sets out its example.
+// A line for each section.
 pub fn in_lines(table: &Table) -> Vec<u8> {
     let counts = table.counts();
     let mut text = Vec::new();

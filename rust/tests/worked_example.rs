@@ -1,4 +1,4 @@
-// Document 01's worked example, as text, as Rust values and through all three entry points; and labels.
+// The worked example of docs/FORMAT.md, as text, as Rust values and through all three entry points; and labels.
 
 mod support;
 

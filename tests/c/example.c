@@ -1,4 +1,4 @@
-/* Folds document 01's worked example and prints it in the text form; then a refusal, and two labels. */
+/* Folds the worked example of docs/FORMAT.md and prints it in the text form; then a refusal, and two labels. */
 #include "gemtweed.h"
 #include <inttypes.h>
 #include <stdio.h>
