@@ -35,11 +35,12 @@ fn number(word: &str) -> u64 {
     word.parse().unwrap_or_else(|_| usage())
 }
 
-// Nanoseconds, the fastest of all runs.
+// Nanoseconds, the fastest of all runs; what is being measured is said on standard error.
 fn print_times() {
     println!("shape,nodes,rust,gemtweed,floor");
     for (name, shape) in SHAPES {
         for size in SIZES {
+            eprintln!("bench: {name}, {size} nodes");
             let Times { rust, ours, floor } = measure::times(&shape(size));
             println!("{name},{size},{rust},{ours},{floor}");
         }
