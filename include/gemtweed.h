@@ -9,9 +9,8 @@
  *   - Each pointer is aligned for its elements (8 bytes for words) and not null, also where its length is 0.
  *   - result, scratch and out overlap no other buffer of the call. words, names and substitute may overlap one another.
  *   - No other thread writes to a buffer during the call, or reads result, scratch or out. Calls on other buffers may run at the same time.
- *   - The stack has room. A node is visited by visiting its operands, so each node of a chain takes stack: 192 bytes, of whatever kind
- *     (measured; rust/examples/stack.rs), 0.8 MiB for the longest chain, of 4,096 nodes, so a fresh thread of 2 MiB is enough. The Rust
- *     crate gives 1,024 bytes for each node of the table and 64 KiB besides, 4.1 MiB for 4,096 nodes. Labels need no such room.
+ *   - The stack has room. A node is visited by visiting its operands, so each node of a chain takes stack; 2 MiB are enough for every table
+ *     (measured: docs/PERFORMANCE.md, "Stack"). Labels need no such room.
  *
  * No call keeps a pointer, allocates, or reads or writes anything else. Each call ends.
  */
@@ -25,6 +24,92 @@
 extern "C" {
 #endif
 
+/* The limits of the sections. */
+#define GEMTWEED_MOST_NODES 4096
+#define GEMTWEED_MOST_ENTRIES 1024 /* of each list: sequentials, initial bad states, sequential bad states */
+#define GEMTWEED_MOST_INPUTS 4096
+#define GEMTWEED_MOST_REPLIES 16384
+#define GEMTWEED_MOST_NAMES 4096
+#define GEMTWEED_LONGEST_NAME 64
+
+/* What a mode adds up. */
+enum { GEMTWEED_MINIMISE = 1, GEMTWEED_TERMINATE = 2, GEMTWEED_ONE_QUERY = 4 };
+
+/* Sorts, the second word of a node. */
+enum { GEMTWEED_BIT = 1, GEMTWEED_WORD = 2, GEMTWEED_MEMORY = 3 };
+#define GEMTWEED_BYTES(count) (10 + (count)) /* 1 to 7 */
+
+/* Kinds, the first word of a node. */
+enum {
+    GEMTWEED_CONST = 1,
+    GEMTWEED_READ,
+    GEMTWEED_WRITE,
+    GEMTWEED_ADD,
+    GEMTWEED_SUB,
+    GEMTWEED_MUL,
+    GEMTWEED_DIVU,
+    GEMTWEED_DIV,
+    GEMTWEED_REM,
+    GEMTWEED_SLL,
+    GEMTWEED_SRL,
+    GEMTWEED_ULT,
+    GEMTWEED_EXT,
+    GEMTWEED_ITE,
+    GEMTWEED_EQ,
+    GEMTWEED_AND,
+    GEMTWEED_OR,
+    GEMTWEED_NOT,
+    GEMTWEED_STATE,
+    GEMTWEED_NEXT,
+    GEMTWEED_INPUT,
+    GEMTWEED_BAD = 22
+};
+
+/* Kinds of questions, and replies. */
+enum {
+    GEMTWEED_ASKED_ALWAYS_TRUE = 1,
+    GEMTWEED_ASKED_ALWAYS_FALSE,
+    GEMTWEED_ASKED_ALWAYS_EQUAL,
+    GEMTWEED_ASKED_SATISFIABLE,
+    GEMTWEED_ASKED_ALL_ALWAYS_FALSE
+};
+enum { GEMTWEED_REPLY_NO = 0, GEMTWEED_REPLY_YES = 1, GEMTWEED_REPLY_SATISFIABLE = 2 };
+
+/* The tally: the last five words of the result, in this order; and the verdicts. */
+enum {
+    GEMTWEED_TALLY_INPUTS_TAKEN = 0,
+    GEMTWEED_TALLY_REPLIES_TAKEN,
+    GEMTWEED_TALLY_WRITES_LOOKED_AT,
+    GEMTWEED_TALLY_UNSETTLED_PASSED, /* if this is not 0, values are not promised */
+    GEMTWEED_TALLY_VERDICT,
+    GEMTWEED_TALLY_FIGURES
+};
+enum {
+    GEMTWEED_VERDICT_NOT_ONE_QUERY = 0,
+    GEMTWEED_VERDICT_FOUND,
+    GEMTWEED_VERDICT_NOT_FOUND,
+    GEMTWEED_VERDICT_ALL_REMOVED
+};
+
+/* The number of an answer. */
+enum {
+    GEMTWEED_ACCEPTED = 0,
+    GEMTWEED_REFUSED_SHORT = 1,          /* a section is short, or something is left over; or a mode above 7 (section 0) */
+    GEMTWEED_REFUSED_OVER_LIMIT,         /* a count or a name's length */
+    GEMTWEED_REFUSED_MALFORMED,          /* an unknown kind or sort, a word that must be 0, or a name rule broken */
+    GEMTWEED_REFUSED_OPERAND_NOT_BEFORE, /* its node */
+    GEMTWEED_REFUSED_SORTS,              /* a node's sorts do not fit */
+    GEMTWEED_REFUSED_ENTRY,              /* past the table, of the wrong kind, or a Next whose state has no init */
+    GEMTWEED_REFUSED_SECOND_SEQUENTIAL,  /* for one state */
+    GEMTWEED_REFUSED_MEMORY_INPUT,       /* a memory State would take an input */
+    GEMTWEED_REFUSED_REPLACED_STATE,     /* of a kept Next; this does not happen */
+    GEMTWEED_REFUSED_INPUT_TOO_WIDE,     /* for its state */
+    GEMTWEED_REFUSED_REPLY,              /* one that its question cannot have */
+    GEMTWEED_REFUSED_NO_ROOM,            /* in result (position 0), else in scratch (1) */
+    GEMTWEED_REFUSED_ALWAYS_TRUE,        /* a bad state, under terminate */
+    GEMTWEED_REFUSED_SATISFIABLE = 14    /* a bad state, under terminate */
+};
+
 /* What a fold answers. number 0: accepted, and the result has so many words. Else a refusal, from 1 to 14, with its section and position. */
 typedef struct {
     uint64_t number;
@@ -36,7 +121,7 @@ typedef struct {
 /* The words that result and scratch each need for so many nodes, sequentials, bad entries of both lists together, and inputs. */
 #define GEMTWEED_ROOM(nodes, sequentials, bads, inputs) (22 * (nodes) + 5 * (bads) + (sequentials) + (inputs) + 22)
 
-/* A fold: inputs and replies of the table both count. mode adds 1 minimise, 2 terminate, 4 one-query. After an accepted call result has the
+/* A fold: inputs and replies of the table both count. mode is a sum of those above, or 0. After an accepted call result has the
  * nine result sections and zeros after them; after a refusal it is all zeros. scratch is all zeros after every call. What the two held
  * before does not matter. */
 gemtweed_answer gemtweed_optimize_model_impl(

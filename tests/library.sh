@@ -1,5 +1,6 @@
 #!/bin/sh
-# The static library from C and from Rust: builds it, runs the C example and compares what it prints, then the Rust crate's tests.
+# The static library from C and from Rust: builds it, runs the C example and compares what it prints, checks the header's names, which C++ must
+# take too where it is at hand, then the Rust crate's tests.
 #     tests/library.sh [LIST]        LIST is a list of kept cases, crates/replay/data/cases.list unless given
 # Needs rt, cc and cargo, and no network.
 set -eu
@@ -11,10 +12,16 @@ rt staticlib gemtweed
 
 folder=$(mktemp -d)
 trap 'rm -r "$folder"' EXIT
-cc -std=c11 -Wall -Wextra -Werror -O2 -I include tests/c/example.c target/staticlib/libgemtweed.a -o "$folder/example"
+for program in example names; do
+    cc -std=c11 -Wall -Wextra -Werror -O2 -I include "tests/c/$program.c" target/staticlib/libgemtweed.a -o "$folder/$program"
+done
 "$folder/example" > "$folder/printed"
 diff tests/c/example.out "$folder/printed"
-echo "C: as expected"
+"$folder/names" > "$folder/checked" || { cat "$folder/checked"; exit 1; }
+echo "C: as expected; names: $(cat "$folder/checked")"
+if c++ --version >/dev/null 2>&1; then
+    c++ -x c++ -std=c++11 -Wall -Wextra -Wpedantic -Werror -fsyntax-only include/gemtweed.h
+fi
 
 cd rust
 cargo test --offline

@@ -2,18 +2,17 @@
 
 use crate::ffi;
 use crate::refusal::Refusal;
+use crate::table::{LONGEST_NAME, MOST_NODES};
 
-/// The stack given for each node of a table, in bytes. A chain of whatever kind was measured to take 192 a node (examples/stack.rs).
+/// The stack given for each node of a table, in bytes: some five times what was measured (docs/PERFORMANCE.md, "Stack").
 pub const STACK_PER_NODE: usize = 1024;
 
 /// The stack given besides, in bytes.
 pub const STACK_BASE: usize = 65536;
 
-const MOST_NODES: u64 = 4096;
-
 /// The stack, in bytes, with which a fold of these words cannot overflow. A table of more nodes than its limit is refused before any is visited.
 pub fn stack_for(words: &[u64]) -> usize {
-    let nodes = words.first().map_or(0, |count| (*count).min(MOST_NODES));
+    let nodes = words.first().map_or(0, |count| (*count).min(MOST_NODES as u64));
     STACK_BASE + STACK_PER_NODE * nodes as usize
 }
 
@@ -72,7 +71,7 @@ pub fn optimize_model_with_input(
 
 /// The name of a node, or the substitute: for a node past the table, without a name, or where nodes or names are refused as 1 or 2.
 pub fn label(words: &[u64], names: &[u8], substitute: &[u8], node: u64) -> Vec<u8> {
-    let mut out = vec![0; substitute.len().max(64)];
+    let mut out = vec![0; substitute.len().max(LONGEST_NAME)];
     // Slices of Rust do not overlap a buffer lent for writing.
     let length = unsafe {
         ffi::gemtweed_label(

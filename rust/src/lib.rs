@@ -22,11 +22,10 @@
 //!
 //! # Stack
 //!
-//! The library visits a node by visiting its operands, so each node of a chain takes stack: 192 bytes, of whatever kind (measured:
-//! `cargo run --release --example stack`). The longest chain, of 4,096 nodes, takes 0.8 MiB, so a fresh thread of 2 MiB is enough, but what
-//! a caller has left of its own is not known. Every function of this crate that folds therefore starts a thread of its own with
+//! The library visits a node by visiting its operands, so each node of a chain takes stack (docs/PERFORMANCE.md, "Stack", says how much), and
+//! what a caller has left of its own is not known. Every function of this crate that folds therefore starts a thread of its own with
 //! [`stack_for`] bytes: a fold does not overflow, whatever stack its caller has. [`here`] has the same calls without that thread, for a
-//! caller who has seen to the stack.
+//! caller who has seen to the stack. "The Rust crate's calls" there says what the thread costs.
 //!
 //! # Panics
 //!
@@ -46,4 +45,7 @@ pub use call::{
 pub use folded::{Asked, Constant, Folded, Question, Reply, Tally, Verdict};
 pub use node::{Name, Node, NodeId, Sort};
 pub use refusal::{Buffer, Refusal};
-pub use table::{room_for, Mode, Table};
+pub use table::{
+    room_for, Mode, Table, LONGEST_NAME, MOST_ENTRIES, MOST_INPUTS, MOST_NAMES, MOST_NODES,
+    MOST_REPLIES,
+};

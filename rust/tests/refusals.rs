@@ -62,10 +62,52 @@ fn number_1_short_or_left_over() {
 fn number_2() {
     let names = |count, length| Table { names: vec![vec![97; length]; count], ..Table::default() };
     let too_many = "names: too many, or one too long";
-    refused(0, &names(1, 65), [2, 7, 0], too_many);
+    refused(0, &names(1, LONGEST_NAME + 1), [2, 7, 0], too_many);
     refused(0, &names(1, 300), [2, 7, 0], too_many);
-    refused(0, &names(4097, 0), [2, 7, 0], too_many);
-    refused(0, &of(&vec![number(0); 4097]), [2, 1, 0], "nodes: too many");
+    refused(0, &names(MOST_NAMES + 1, 0), [2, 7, 0], too_many);
+    refused(0, &of(&vec![number(0); MOST_NODES + 1]), [2, 1, 0], "nodes: too many");
+}
+
+// Every section at its limit: a Bad on 0, a Next for each of as many states as may be listed, and constants.
+fn at_limits() -> Table {
+    let zero = Node::Const { sort: Sort::Bit, number: 0 };
+    let mut table = Table {
+        nodes: vec![zero, Node::Bad { condition: NodeId(0), name: None }],
+        initial_bads: vec![NodeId(1); MOST_ENTRIES],
+        sequential_bads: vec![NodeId(1); MOST_ENTRIES],
+        inputs: vec![0; MOST_INPUTS],
+        replies: vec![Reply::No; MOST_REPLIES],
+        names: vec![vec![97; LONGEST_NAME]; MOST_NAMES],
+        ..Table::default()
+    };
+    for _ in 0..MOST_ENTRIES {
+        let init = Some(NodeId(0));
+        let state = table.add(Node::State { sort: Sort::Bit, init, name: None });
+        let next = table.add(Node::Next { sort: Sort::Bit, state, next: NodeId(0) });
+        table.sequentials.push(next);
+    }
+    table.nodes.resize(MOST_NODES, zero);
+    table
+}
+
+#[test]
+fn number_2_past_each_limit() {
+    let whole = at_limits();
+    assert!(whole.fold(Mode::default()).is_ok());
+    let past: [(u64, fn(&mut Table)); 7] = [
+        (1, |table| table.nodes.push(number(0))),
+        (2, |table| table.sequentials.push(NodeId(3))),
+        (3, |table| table.initial_bads.push(NodeId(1))),
+        (4, |table| table.sequential_bads.push(NodeId(1))),
+        (5, |table| table.inputs.push(0)),
+        (6, |table| table.replies.push(Reply::No)),
+        (7, |table| table.names.push(Vec::new())),
+    ];
+    for (section, more) in past {
+        let mut table = whole.clone();
+        more(&mut table);
+        assert_eq!(table.fold(Mode::default()), Err(Refusal::OverLimit { section }));
+    }
 }
 
 #[test]

@@ -7,7 +7,11 @@ enum { ROOM = GEMTWEED_ROOM(4, 0, 1, 1) };
 
 /* State "hold-end" without an init; Const 12; whether the one is below the other; a Bad on that. */
 static const uint64_t words[] = {
-    4, 19, 2, 0, 0, 0, 1, 1, 2, 12, 0, 0, 0, 12, 1, 0, 1, 0, 0, 22, 1, 2, 0, 0, 0,
+    4,
+    GEMTWEED_STATE, GEMTWEED_WORD, 0, 0, 0, 1,
+    GEMTWEED_CONST, GEMTWEED_WORD, 12, 0, 0, 0,
+    GEMTWEED_ULT, GEMTWEED_BIT, 0, 1, 0, 0,
+    GEMTWEED_BAD, GEMTWEED_BIT, 2, 0, 0, 0,
     0,
     1, 3,
     0,
@@ -36,7 +40,7 @@ static void print_sections(const uint64_t *at)
 
 static void print_answer(gemtweed_answer answer)
 {
-    if (answer.number == 0)
+    if (answer.number == GEMTWEED_ACCEPTED)
         print_sections(result);
     else
         printf("refused %" PRIu64 " %" PRIu64 " %" PRIu64 "\n", answer.number, answer.section, answer.position);
@@ -45,7 +49,7 @@ static void print_answer(gemtweed_answer answer)
 static void print_label(uint64_t node)
 {
     static const uint8_t substitute[] = "no name";
-    uint8_t label[64];
+    uint8_t label[GEMTWEED_LONGEST_NAME];
     uint64_t length = gemtweed_label(words, WORDS, names, sizeof names, substitute, 7, node, label, sizeof label);
     printf("node %" PRIu64 ": %.*s\n", node, (int)length, (const char *)label);
 }

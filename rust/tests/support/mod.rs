@@ -1,6 +1,6 @@
 // The program's text form: read into a call, and a call's outcome printed.
 
-use gemtweed::Refusal;
+use gemtweed::{Refusal, MOST_ENTRIES, MOST_INPUTS, MOST_NODES, MOST_REPLIES};
 
 // Result and scratch have this many words in the program.
 pub const ROOM: usize = 4096;
@@ -49,9 +49,11 @@ fn number(token: &[u8]) -> Option<u64> {
 // Where section 6 ends; all numbers where a section before is short or too long.
 fn words_end(numbers: &[u64]) -> usize {
     let mut at = 0;
-    for (width, most) in [(6, 4096), (1, 1024), (1, 1024), (1, 1024), (1, 4096), (1, 16384)] {
+    let lists = [(1, MOST_ENTRIES), (1, MOST_ENTRIES), (1, MOST_ENTRIES)];
+    let others = [(1, MOST_INPUTS), (1, MOST_REPLIES)];
+    for (width, most) in [(6, MOST_NODES)].into_iter().chain(lists).chain(others) {
         match numbers.get(at) {
-            Some(count) if *count <= most => at += 1 + width * *count as usize,
+            Some(count) if *count <= most as u64 => at += 1 + width * *count as usize,
             _ => return numbers.len(),
         }
     }
