@@ -1,4 +1,4 @@
--- Where the operators are the standard's, and exactly where not (mission, demand 2; docs/DIFFERENCES.md). The proofs stand in proofs/Agreement.antt.
+-- Where the operators are the standard's, and exactly where not (docs/DIFFERENCES.md). The proofs stand in proofs/Agreement.antt.
 --     disagrees      the operands at which the Rust's operator and the standard's differ
 -- Assumes nothing.
 use Prim.Native.Nat.{ℕ, _+_, _-_, _^_, _<_, _≤_}

@@ -1,4 +1,4 @@
--- The cases that document 01 marks P in "Noon itself", as far as they are about operators.
+-- Operators where they are easily mistaken: past 2^64 and below 0, signs, by 0, shifts by 63 and 64, equality, bytes (docs/FORMAT.md, "Operators").
 -- Assumes nothing.
 use Prim.Native.Nat.{ℕ, _-_, _^_}
 use mathlib.Core.Path.{_≡_}

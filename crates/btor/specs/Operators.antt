@@ -1,4 +1,4 @@
--- What the operators compute, on whole numbers (document 01, "Folding"; the five btor_u64_* of optimize.rs).
+-- What the operators compute, on whole numbers (docs/FORMAT.md, "Operators"; the five btor_u64_* of optimize.rs).
 --     compute       the eight operators on words of 64 bits          both, either, complement    And, Or, Not
 --     less, same    Ult and Eq, as tests                             extend                      Ext
 --     read, write   Read and Write, on memories                      choose                      Ite

@@ -1,4 +1,4 @@
--- The sorts of nodes (document 01, "The house tables"; NodeType, get_sort and bitsize of mod.rs, ones of optimize.rs).
+-- The sorts of nodes (docs/FORMAT.md, "Nodes"; NodeType, get_sort and bitsize of mod.rs, ones of optimize.rs).
 --     codeOf    the code of a sort       widthOf    its bits; a memory is no number and has none
 --     onesOf    all ones of a sort       sortOf     the sort that a code names, if it names one
 -- Assumes nothing.

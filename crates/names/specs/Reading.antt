@@ -1,4 +1,4 @@
--- Reading the names bytes from place to place (document 01, "a reader holding the names bytes and its place"), by the rules' own cutting of one name.
+-- Reading the names bytes from place to place (docs/FORMAT.md, "Names"), by the rules' own cutting of one name.
 -- A place is that of a length byte; the first name's is 2. At a place where no name can be read nothing moves and no bytes are handed back.
 --     nextOf, nextAt     what stands at a place: where a name's bytes start and how many they are, the end, or the refusal
 --     nameAt, afterAt    the bytes of the name at a place, and the place after it
@@ -60,7 +60,7 @@ readFrom (suc most) bs at = nextAt bs at >>= λ next. readOn next (nameAt bs at)
 abbrev pub readNames : List ℕ → Out (List (List ℕ))
 readNames bs = readFrom (length bs) bs 2
 
--- ---- name k: "Name k is the k-th name; 0 is none", and there is none where the bytes are refused
+-- ---- name k: "k for the k-th name, from 1, and 0 for none", and there is none where the bytes are refused
 abbrev pub beginsOr : ℕ → Option (ℕ × ℕ) → ℕ
 beginsOr end none = end
 beginsOr end (some q) = q .0 - 1

@@ -1,4 +1,4 @@
--- Document 01's example, as the walk leaves it in the buffers: the nine sections are the paper's lines, whatever stands in the unused words.
+-- The example of docs/FORMAT.md, "Noon, by hand", as the walk leaves it in the buffers: the nine sections are its lines, whatever stands in the unused words.
 -- By computation; the last theorem shows that what `write_result` asks of the buffers can be met.
 -- Assumes nothing.
 use Prim.Native.Nat.{ℕ, zero, suc, _+_, _<_}

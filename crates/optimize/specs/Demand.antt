@@ -1,8 +1,8 @@
--- Demand 3 of the three entry points themselves: of the words that an accepted call leaves in the result buffer.
+-- Demand 3 of the three entry points themselves (docs/FORMAT.md, "What you may rely on"): of the words that an accepted call leaves in the result buffer.
 --     Contract          what the contracts in optimize.rt say of a call and of what it left
 --     after, listIn, worthIn     a result's words read back, section by section
 --     KeepsIn           what is concluded of the words        Demand3OfResult    the demand, with no premise but its own
--- What is visited, replaced, forwarded, used or dropped "follows from these rules on the call's input": the premises are of the rules' fold.
+-- What is visited, replaced, asked or dropped follows from the rules on what a call is given, never from a result: the premises are of the rules' fold.
 -- Assumes nothing.
 use Prim.Native.Nat.{ℕ, _+_, _-_, _*_, _<_}
 use mathlib.Core.Path.{_≡_}
@@ -29,7 +29,7 @@ pub record Contract (entry : Entry) (call : Call) (r : Optimized) (Q S : List �
   pub result : Q ≡ left house entry call .result
   pub scratch : S ≡ left house entry call .scratch
 
--- ---- a result's words: "rewritten nodes; made constants (sort, number); replacements (node, replacement); the three kept lists", each after its count
+-- ---- a result's words: nodes, constants, replacements, the three kept lists, "each after its count"
 -- the words after a section whose entries have so many words
 abbrev pub after : ℕ → List ℕ → List ℕ
 after width ws = drop (1 + width * countOf ws) ws
@@ -55,12 +55,12 @@ unfoldable pub times : ℕ → List ℕ → ℕ
 times b [] = 0
 times b (x ∷ xs) = bit (eqb b x) + times b xs
 
--- ---- what a number in the result stands for: a node's value in the given table, or "a made constant its number"
+-- ---- what a number in the result stands for: a node's value in the given table, or "a constant its number"
 unfoldable pub worthIn : Reading → List Node → (ℕ → Value) → List ℕ → ℕ → Value
 worthIn how t α Q r = cond (ltb r (length t)) (value how (nodeAt t) α r) (number (getD (constantsOn Q) (2 + 2 * (r - length t)) 0))
 
--- "each visited node's rewritten row has exactly the value that the node has in the given table" (and each other row too), "each replacement has its node's value",
--- "and the condition of each dropped bad state is 0 in the given table": of each that the kept list has fewer times than the given one
+-- "every rewritten row, .. is worth what the node is worth in the given table", "every replacement is worth what its node is worth",
+-- "the condition of every dropped bad state is 0": of each that the kept list has fewer times than the given one
 pub record KeepsIn (how : Reading) (m : Model) (Q : List ℕ) (α : ℕ → Value) : Type 0 where
   pub nodes : countOf Q ≡ length (m .table)
   pub rows : (k : ℕ) → k < length (m .table) → worth how (worthIn how (m .table) α Q) (α k) (nodeOf Q k) ≡ value how (nodeAt (m .table)) α k
@@ -69,7 +69,7 @@ pub record KeepsIn (how : Reading) (m : Model) (Q : List ℕ) (α : ℕ → Valu
   pub initial : (b : ℕ) → times b (listIn (initialOn Q)) < times b (m .initial) → value how (nodeAt (m .table)) α (nodeAt (m .table) b .a) ≡ number 0
   pub later : (b : ℕ) → times b (listIn (laterOn Q)) < times b (m .later) → value how (nodeAt (m .table)) α (nodeAt (m .table) b .a) ≡ number 0
 
--- "no forwarded read passed a write with an unsettled address", and each used reply holds whatever the assignment
+-- "no Read that found its value passed an unsettled Write", "each reply of 1 that a question took holds in every faithful assignment"
 abbrev pub Presumed : Accepted → Type 0
 Presumed a =
     NonePassed (a .how .reading) (a .folded)

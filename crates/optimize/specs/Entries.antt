@@ -42,7 +42,7 @@ repliesEnd rules.impl p = p .end
 repliesEnd rules.withSolver p = p .end
 repliesEnd rules.withInput p = p .start
 
--- "A refusal leaves the result and scratch buffers all zero."
+-- "A refused call leaves both buffers all zeros"
 abbrev pub resultLeft : Optimized → List ℕ → List ℕ
 resultLeft (Optimized.Done k) Q = Q
 resultLeft (Optimized.Refused r) Q = replicate (length Q) 0

@@ -106,7 +106,7 @@ foldsOne Or b = false
 foldsOne Next b = false
 foldsOne Input b = false
 
--- "an unfolded Ult, Eq, And of sort 1 … asks always-true, then always-false"
+-- "Ult; Eq; And of sort 1" ask 1, then 2
 unfoldable pub asksBit : Kind → ℕ → Bool
 asksBit Ult sort = true
 asksBit Eq sort = true

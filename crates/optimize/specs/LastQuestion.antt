@@ -16,7 +16,7 @@ unfoldable pub answeredOf : List Held → List ℕ → List ℕ → List ℕ →
 answeredOf h g inputs replies (Answered.Done w v) R S = done (view h g inputs replies R S w, v)
 answeredOf h g inputs replies (Answered.Refused r) R S = refused (refusalOf r)
 
--- "reply 1 means not found, 0 found": 2 not found, 1 found
+-- "2 after the reply 1 (none can be found), and 1 after the reply 0"
 abbrev pub verdictThen : Out (St × ℕ) → Out (St × ℕ)
 verdictThen o = o >>= λ p. done (p .0, cond (eqb (p .1) 1) 2 1)
 

@@ -49,7 +49,7 @@ mode-done mode how e = go (ltb highestMode mode) refl
     go false h = let m : mode ≤ highestMode = ltb-false highestMode mode h in (m, same-done (modeOf mode) how (sym (mode-taken mode m) ∙ e))
 
 module _ (words resultRoom scratchRoom : ℕ) where
-  -- "12, result first": whatever room scratch has
+  -- 12: "result (position 0), else scratch (1)", so whatever room scratch has
   pub no-result-room : resultRoom < words → judgeRoom words resultRoom scratchRoom ≡ refuse 12 8 0
   unfolding judgeRoom
   no-result-room h = rw (lt-ltb resultRoom words h, judgeRoom)
@@ -174,7 +174,7 @@ model-fits withSolver names s how f c e = omega (arith, room-rule (modelFrom nam
 model-fits withInput names s how f c e = omega (arith, room-rule (modelFrom names (brought withInput s)) how f (formed withInput names s c) e, length-map (s .rows) decode)
 
 module _ (limits : Limits) (entry : Entry) (call : Call) where
-  -- "A refusal leaves the result and scratch buffers all zero."
+  -- "A refused call leaves both buffers all zeros"
   pub refused-zero : (r : Refusal) → outcome limits entry call ≡ refused r
       → (left limits entry call .result ≡ replicate (call .resultRoom) 0) × (left limits entry call .scratch ≡ replicate (call .scratchRoom) 0)
   unfolding left

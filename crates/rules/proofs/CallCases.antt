@@ -1,4 +1,4 @@
--- Each limit of words, names and text tried at its own minute, and document 01's example, text to text: all by computation.
+-- Each limit of words, names and text tried at its own value, and the example of docs/FORMAT.md, "Noon, by hand", text to text: all by computation.
 -- A text is written as quoted text, and `ascii` gives its bytes. Only the last two theorems reach the fold.
 --     section-limits, name-limits, dump-names, room-limits, labels, text-reading, text-most, text-names, program-room, accepted-calls, accepted-texts
 -- Assumes nothing.
@@ -181,7 +181,7 @@ pub accepted-calls : (optimizeModelImpl 7 noWords noNames 22 22
 unfolding left outcome judgeMode cut cutSix cutSection rowsOf namesOf countedNames cutNames judgeCut judgeRoom startsWith judgeAndFold flatten run check checkNodes checkSequentials checkBads width resultWords gather sum questionWords fold foldBads judgeBads judgeSequentials visitAll lastQuestion ask askOr visit process settle finish finishStay unary binary visit1 visit2 visit3 iteOn takeInput forward find lookAt
 accepted-calls = (refl, refl, refl, refl, refl)
 
--- document 01's example, text to text
+-- the example of docs/FORMAT.md, "Noon, by hand", text to text
 unfoldable pub Example : Type 0
 Example =
     Prints "0\n4 19 2 0 0 0 1 1 2 12 0 0 0 12 1 0 1 0 0 22 1 2 0 0 0\n0\n1 3\n0\n1 12\n0\n1 8 104 111 108 100 45 101 110 100\n"

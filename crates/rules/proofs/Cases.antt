@@ -1,4 +1,4 @@
--- The worked cases of "Noon itself", by computation.
+-- The worked cases of specs/Cases.antt, by computation.
 -- Assumes nothing.
 use mathlib.Core.Path.{refl}
 use Rattle.btor.specs.Operators.{compute, signedDiv, complement}

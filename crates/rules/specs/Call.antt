@@ -1,4 +1,4 @@
--- A call: from the mode, the words, the names bytes and the room lent to the answer and every word handed back (document 01).
+-- A call: from mode, words, names bytes and room to the answer and every word left (docs/FORMAT.md, "A call", "Refusals", "Result", "Entry points and labels").
 --     outcome            the stages of a call, joined by the first refusal
 --     left               the answer, the result buffer and the scratch buffer after a call
 --     optimizeModelImpl, optimizeModelWithSolver, optimizeModelWithInput   the three entry points
@@ -30,7 +30,7 @@ pub record Call : Type 0 where
   pub scratchRoom : ℕ
 
 -- ---- the stages, in order
--- "a mode above 7 is 1 (section 0, position 0)"
+-- refusal 1: "a mode above 7 (section 0)", position 0
 unfoldable pub judgeMode : ℕ → Out Mode
 judgeMode mode = elim (ltb highestMode mode) [ true ↦ refuse 1 0 0 | false ↦ done (modeOf mode) ]
 
@@ -38,7 +38,7 @@ judgeMode mode = elim (ltb highestMode mode) [ true ↦ refuse 1 0 0 | false ↦
 abbrev pub needOf : Sections → ℕ
 needOf s = need (length (s .rows)) (length (s .sequentials)) (length (s .initial) + length (s .later)) (length (s .inputs))
 
--- "12 no room (section 8; position 0 result, 1 scratch)", "12, result first"
+-- 12: "no room: result (position 0), else scratch (1)", section 8
 unfoldable pub judgeRoom : ℕ → ℕ → ℕ → Out (Unit {0})
 judgeRoom words resultRoom scratchRoom =
     elim (ltb resultRoom words) [
@@ -50,7 +50,7 @@ judgeRoom words resultRoom scratchRoom =
 pub data Entry : Type 0 where
   impl withSolver withInput : Entry
 
--- "`optimize_model_with_solver` brings no inputs, and `optimize_model_with_input` is mode 0 with no solver replies"
+-- "`optimize_model_with_solver` as though there were no inputs (section 5), `optimize_model_with_input` as though there were no replies (section 6), at mode 0"
 abbrev pub brought : Entry → Sections → Sections
 brought impl s = s
 brought withSolver s = record { rows = s .rows; sequentials = s .sequentials; initial = s .initial; later = s .later; inputs = []; replies = s .replies }
@@ -66,7 +66,7 @@ pub record Accepted : Type 0 where
   pub model : Model
   pub folded : Folded
 
--- "nodes rising, 3, 4, 5; lists in order, each entry 6 then 7; then the walk as met": refusals 3 to 7 read neither inputs nor replies
+-- "the nodes, rising, .. the lists in order, .. as the walk meets them": refusals 3 to 7 read neither inputs nor replies
 unfoldable pub judgeAndFold : Entry → Mode → Sections → List (List ℕ) → Out Accepted
 judgeAndFold entry how s names =
     let m : Model = modelFrom names (brought entry s) in
@@ -78,7 +78,7 @@ judgeCut entry how s names resultRoom scratchRoom = do
   _ ← judgeRoom (needOf s) resultRoom scratchRoom
   judgeAndFold entry how s names
 
--- "Order: a mode above 7 ..; sections 1 to 7, each 2 before 1; 12, result first; nodes ..; lists ..; then the walk as met."
+-- "the mode; sections 1 to 7, in each 2 before 1; 12; the nodes, rising, .. the lists in order, .. as the walk meets them"
 unfoldable pub outcome : Limits → Entry → Call → Out Accepted
 outcome limits entry call = do
   how ← judgeMode (call .mode)
@@ -107,8 +107,8 @@ foldJudged entry j =
     let m : Model = modelFrom (j .names) (brought entry (j .sections)) in
     fold m (j .how) >>= λ f. done (record { how = j .how; model = m; folded = f })
 
--- ---- what is handed back
--- "Result sections: rewritten nodes; made constants; replacements; the three kept lists; inputs left; questions; a tally of 5."
+-- ---- what comes back
+-- "nine sections in result, each after its count"
 abbrev pub sectionsOf : Accepted → List (List ℕ)
 sectionsOf a = resultWords (a .model) (a .folded)
 
@@ -116,7 +116,7 @@ sectionsOf a = resultWords (a .model) (a .folded)
 abbrev pub wordsOf : Accepted → List ℕ
 wordsOf a = flatten (sectionsOf a)
 
--- number 0 is acceptance, with how many words the result has; a refusal "carries number, section, position"
+-- number 0 is acceptance, with how many words the result has; else "a refusal: a number, a section and a position"
 pub record Answer : Type 0 where
   pub number : ℕ
   pub section : ℕ
@@ -128,7 +128,7 @@ abbrev pub answerOf : Out Accepted → Answer
 answerOf (refused r) = record { number = r .reason; section = r .section; position = r .position; words = 0 }
 answerOf (done a) = record { number = 0; section = 0; position = 0; words = length (wordsOf a) }
 
--- "Words past the result are 0"; "A refusal leaves the result and scratch buffers all zero."
+-- "and zeros after them"; "A refused call leaves both buffers all zeros"
 abbrev pub resultOf : ℕ → Out Accepted → List ℕ
 resultOf room (refused r) = replicate room 0
 resultOf room (done a) = wordsOf a ++ replicate (room - length (wordsOf a)) 0
@@ -139,22 +139,22 @@ pub record Left : Type 0 where
   pub result : List ℕ
   pub scratch : List ℕ
 
--- "scratch is 0 after each call"
+-- "scratch is all zeros"
 unfoldable pub left : Limits → Entry → Call → Left
 left limits entry call =
     let o : Out Accepted = outcome limits entry call in
     record { answer = answerOf o; result = resultOf (call .resultRoom) o; scratch = replicate (call .scratchRoom) 0 }
 
 -- ---- the three entry points, with the house's limits
--- "The reference is `optimize_model_impl`"
+-- "`optimize_model_impl` is the call described above."
 abbrev pub optimizeModelImpl : ℕ → List ℕ → List ℕ → ℕ → ℕ → Left
 optimizeModelImpl mode words names r s = left house impl (record { mode = mode; words = words; names = names; resultRoom = r; scratchRoom = s })
 
--- "brings no inputs": judged as given, folded as though section 5 were empty
+-- "as though there were no inputs (section 5)", and judged as given
 abbrev pub optimizeModelWithSolver : ℕ → List ℕ → List ℕ → ℕ → ℕ → Left
 optimizeModelWithSolver mode words names r s = left house withSolver (record { mode = mode; words = words; names = names; resultRoom = r; scratchRoom = s })
 
--- "mode 0 with no solver replies": judged as given, folded as though section 6 were empty
+-- "as though there were no replies (section 6), at mode 0", and judged as given
 abbrev pub optimizeModelWithInput : List ℕ → List ℕ → ℕ → ℕ → Left
 optimizeModelWithInput words names r s = left house withInput (record { mode = 0; words = words; names = names; resultRoom = r; scratchRoom = s })
 

@@ -1,5 +1,5 @@
--- Worked cases of document 01's "Noon itself".
---     NoonCases     every case marked P, of accepted calls: the constants made, what is replaced, and the two counts of writes
+-- Worked cases of the rules (docs/FORMAT.md, "Operators", "Reads", "Noon, by hand").
+--     NoonCases     operators and a Read past an unsettled Write, of accepted calls: the constants made, what is replaced, and the two counts of writes
 --     NoonExample   the example's nine result sections
 --     OneBranch and after, UltAtEquality, PastUnsettled    what looks right and is wrong, each on a small table
 -- Assumes nothing.
@@ -59,11 +59,11 @@ onTwo code s x y = row 1 s x 0 0 0 ∷ row 1 s y 0 0 0 ∷ row code s 0 1 0 0 �
 abbrev pub Gives : Op → ℕ → ℕ → ℕ → Type 0
 Gives op x y r = Tells (onTwo (opCode op) 2 x y) (oneMade 2 r) (only 2 8) 0 0
 
--- "Ult 12, 12 false": it is the shared false
+-- Ult of 12 and 12: it is the shared false
 unfoldable pub UltAtEquality : Type 0
 UltAtEquality = Tells (row 1 2 12 0 0 0 ∷ row 1 2 12 0 0 0 ∷ row 12 1 0 1 0 0 ∷ row 22 1 2 0 0 0 ∷ []) noneMade (only 2 4) 0 0
 
--- "Write 7 at 5, write 9 at an Input, read 5: the 7": the read is node 1, the 7 below the unsettled write
+-- 7 written at 5, then 9 at an Input, and 5 read: the read is node 1, the 7 below the unsettled write
 unfoldable pub PastUnsettled : Type 0
 PastUnsettled =
     Tells (row 1 2 5 0 0 0 ∷ row 1 2 7 0 0 0 ∷ row 21 2 0 0 0 1 ∷ row 1 2 9 0 0 0 ∷ row 19 3 0 0 0 0 ∷ row 3 3 4 0 1 0 ∷ row 3 3 5 2 3 0
@@ -108,7 +108,7 @@ NoonExample =
     ∷ (0 ∷ []) ∷ (0 ∷ []) ∷ (0 ∷ []) ∷ (0 ∷ []) ∷ (0 ∷ [])
     ∷ (5 ∷ 1 ∷ 0 ∷ 0 ∷ 0 ∷ 0 ∷ []) ∷ []
 
--- ---- what looks right and is wrong, each on a small table; "Ult true at equality" and "stopping at an unsettled write" are above
+-- ---- what looks right and is wrong, each on a small table; Ult true at equality, and a walk that stops at an unsettled write, are above
 abbrev pub node : Kind → ℕ → ℕ → ℕ → ℕ → Node
 node k s x y z = record { kind = k; sort = s; a = x; b = y; c = z; name = 0 }
 
@@ -128,25 +128,25 @@ abbrev pub initialAfter : Out Folded → List (List ℕ)
 initialAfter (refused r) = []
 initialAfter (done f) = f .initial ∷ []
 
--- "visiting both branches of a settled Ite (an input is lost)": the State that is not chosen takes no input
+-- "only the chosen branch is visited": the State that is not chosen takes no input
 unfoldable pub OneBranch : Type 0
 OneBranch =
     let t : List Node = constant 1 1 ∷ constant 2 5 ∷ node State 2 0 0 0 ∷ node Ite 2 0 1 2 ∷ [] in
     inputsAfter (visitTop t plain (start t (7 ∷ []) []) 3) ≡ (7 ∷ []) ∷ []
 
--- "never a shared one": a bit State that takes 1 is replaced by a constant of its own, number n + 2
+-- "A made constant is never shared": a bit State that takes 1 is replaced by a constant of its own, number n + 2
 unfoldable pub OwnConstant : Type 0
 OwnConstant =
     let t : List Node = node State 1 0 0 0 ∷ [] in
     numberAfter (visitTop t plain (start t (1 ∷ []) []) 0) ≡ 3 ∷ []
 
--- "With 1 it stays"
+-- "the constant 1: it is kept"
 unfoldable pub TrueBadStays : Type 0
 TrueBadStays =
     let rs : List Row = row 1 1 1 0 0 0 ∷ row 22 1 0 0 0 0 ∷ [] in
     initialAfter (run 0 rs (modelOf rs (λ k. false) [] (1 ∷ []) [] [] []) mode0) ≡ (1 ∷ []) ∷ []
 
--- "a reply never asked for is not judged"
+-- "A reply that no question takes is not looked at."
 unfoldable pub UnaskedUnjudged : Type 0
 UnaskedUnjudged =
     let rs : List Row = row 1 1 1 0 0 0 ∷ row 22 1 0 0 0 0 ∷ [] in

@@ -1,4 +1,4 @@
--- What a table and its lists must be: refusals 3 to 7 (document 01, "The house tables", "Refused, by whose hand").
+-- What a table and its lists must be: refusals 3 to 7 (docs/FORMAT.md, "Nodes", "Names", "Lists, inputs and replies", "Refusals").
 --     rule3, rule4, rule5             words and names, operands before, sorts
 --     checkSequentials, checkBads     the lists, each entry 6 then 7
 --     check                           all of them in order: nodes rising, then lists in order
@@ -17,7 +17,7 @@ use Rattle.rules.specs.Refusal.{Refusal, unless, firstOf}
 use Rattle.rules.specs.Table.{Kind, Const, Read, Write, Word, Ult, Ext, Ite, Eq, And, Or, Not, State, Next, Input, Bad, kinds, Row, Node, decode, is, nodeAt, operands, fits}
 use Rattle.rules.specs.Model.{Model}
 
--- ---- 3: "unknown kind or sort code, a word that must be 0 or a name rule broken"
+-- ---- 3: "kind or sort code, or an Ext's b, is unknown; a word that must be 0 is not; a State's b is above 1; a name is past the last, missing or not allowed"
 abbrev pub knownKind : ℕ → Bool
 knownKind k = ltb 0 k && leb k (length kinds)
 
@@ -28,7 +28,7 @@ isKnown Unknown = false
 abbrev pub knownSort : ℕ → Bool
 knownSort s = isKnown (sortOf s)
 
--- "Unused words are 0"; "State: b is 1 with an init in a, else both are 0"
+-- "a word that a kind does not use is 0"; a State's a is "its init, of that sort, if b is 1; else 0", and its b "1 with an init, else 0"
 abbrev pub unusedAs : Kind → Node → List ℕ
 unusedAs Const nd = nd .b ∷ nd .c ∷ []
 unusedAs Read nd = nd .c ∷ []
@@ -46,7 +46,7 @@ unusedAs Next nd = nd .c ∷ []
 unusedAs Input nd = nd .a ∷ nd .b ∷ nd .c ∷ []
 unusedAs Bad nd = nd .b ∷ nd .c ∷ []
 
--- "a k past the last breaks the name rule. State and Bad may have one, Input must, others must not"
+-- "a name is past the last, missing or not allowed": "A State and a Bad may have a name, an Input must have one, other nodes must not."
 abbrev pub named : ℕ → Node → List Bool
 named names nd =
     leb (nd .name) names
@@ -63,16 +63,16 @@ rule3 names r =
     ∷ every (λ x. eqb x 0) (unusedAs (nd .kind) nd)
     ∷ named names nd)
 
--- ---- 4: "operand not before its node": each is below the bound, which is the node itself
+-- ---- 4: "an operand is not before its node": each is below the bound, which is the node itself
 abbrev pub rule4 : ℕ → Node → Bool
 rule4 bound nd = every (λ x. ltb x bound) (operands nd)
 
 -- ---- 5: sorts
--- "Next and Bad are never operands"
+-- "A Next or a Bad is never an operand."
 abbrev pub mayServe : Node → Bool
 mayServe nd = not (is Next nd || is Bad nd)
 
--- the paragraph on sorts: s x is the sort of node x
+-- the table of kinds: s x is the sort of node x
 abbrev pub sortedAs : List Node → (ℕ → ℕ) → Kind → Node → List Bool
 sortedAs t s Const nd = not (eqb (nd .sort) 3) ∷ fits (nd .sort) (nd .a) ∷ []
 sortedAs t s Read nd = eqb (nd .sort) 2 ∷ eqb (s (nd .a)) 3 ∷ eqb (s (nd .b)) 2 ∷ []
@@ -96,7 +96,7 @@ sorted t nd = sortedAs t (λ x. nodeAt t x .sort) (nd .kind) nd
 abbrev pub rule5 : List Node → Node → Bool
 rule5 t nd = every (λ x. mayServe (nodeAt t x)) (operands nd) && allTrue (sorted t nd)
 
--- ---- "nodes rising, 3, 4, 5": 3, 4, 5 name the node (section 1)
+-- ---- "the nodes, rising, for each 3, then 4, then 5": they name the node (section 1)
 abbrev pub checkNode : ℕ → List Node → ℕ → Row → Option Refusal
 checkNode names t k r =
     firstOf (unless (rule3 names r) 3 1 k ∷ unless (rule4 k (decode r)) 4 1 k ∷ unless (rule5 t (decode r)) 5 1 k ∷ [])
@@ -106,7 +106,7 @@ checkNodes names t k [] = none
 checkNodes names t k (r ∷ rs) = firstOf (checkNode names t k r ∷ checkNodes names t (suc k) rs ∷ [])
 
 -- ---- the lists: 6 and 7 name the list's section and place as given
--- 6: "list entry past the table or of the wrong kind, or a Next whose state has no init"
+-- 6: "a list entry is past the table, of the wrong kind, or a Next whose state has no init"
 abbrev pub sequentialEntry : List Node → ℕ → List Bool
 sequentialEntry t s = ltb s (length t) ∷ is Next (nodeAt t s) ∷ eqb (nodeAt t (nodeAt t s .a) .b) 1 ∷ []
 
@@ -126,7 +126,7 @@ unfoldable pub checkBads : List Node → ℕ → ℕ → List ℕ → Option Ref
 checkBads t section place [] = none
 checkBads t section place (b ∷ bs) = firstOf (unless (allTrue (badEntry t b)) 6 section place ∷ checkBads t section (suc place) bs ∷ [])
 
--- "nodes rising, 3, 4, 5; lists in order, each entry 6 then 7": m's table is the rows decoded
+-- "the nodes, rising, for each 3, then 4, then 5; the lists in order, for each entry 6, then 7": m's table is the rows decoded
 unfoldable pub check : ℕ → List Row → Model → Option Refusal
 check names rs m =
     firstOf (checkNodes names (m .table) 0 rs

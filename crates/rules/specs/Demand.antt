@@ -1,4 +1,4 @@
--- Demand 3 of the folding rules.
+-- Demand 3 of the folding rules (docs/FORMAT.md, "What you may rely on").
 --     Faithful      an assignment that gives every replaced state its replacement's value
 --     RepliesHold   each used reply of yes or unsatisfiable holds      Keeps     what is concluded
 --     Demand3       the demand, of every call whose words stand in their sections
@@ -21,7 +21,7 @@ use Rattle.rules.specs.Walk.{St, replaced, Question, Held}
 use Rattle.rules.specs.Questions.{alwaysTrue, equal, several}
 use Rattle.rules.specs.Whole.{trivial, Folded, fold, run}
 
--- what a number of the result stands for: a node's value in the given table, false, true, "a made constant its number"
+-- what a number of the result stands for: a node's value in the given table, false, true, "a constant its number"
 unfoldable pub worthOf : Reading → List Node → (ℕ → Value) → St → ℕ → Value
 worthOf how t α σ r =
     cond (ltb r (length t)) (value how (nodeAt t) α r)
@@ -29,11 +29,11 @@ worthOf how t α σ r =
     (cond (eqb r (length t + 1)) (number 1)
     (number (σ .rows r .a))))
 
--- "an assignment to states and inputs", which "fits the sort"
+-- "An assignment gives each State and each Input a value that fits its sort"
 abbrev pub Assigns : List Node → (ℕ → Value) → Type 0
 Assigns t α = (k : ℕ) → k < length t → (is State (nodeAt t k) || is Input (nodeAt t k)) ≡ true → Fits (nodeAt t k .sort) (α k)
 
--- "A replaced state is one whose Next was dropped or that took an input": the first has its init's value
+-- "A state is replaced where its Next was dropped or where it took an input.": the first has its init's value
 abbrev pub SameInit : List Node → (ℕ → Value) → ℕ → Type 0
 SameInit t v s = trivial t (nodeAt t s) ≡ true → v (nodeAt t s .a) ≡ v (nodeAt t (nodeAt t s .a) .a)
 
@@ -50,7 +50,7 @@ pub record Faithful (how : Reading) (t : List Node) (ss : List ℕ) (σ : St) (�
 abbrev pub Unreplaced : List Node → List ℕ → St → ℕ → Type 0
 Unreplaced t ss σ k = All (λ s. trivial t (nodeAt t s) ≡ true → nodeAt t s .a ≢ k) ss × All (λ h. h .state ≢ k) (σ .held)
 
--- "It holds when, by the given table's values, what is asked about is 1 (kind 1), 0 (2, 4, and each bad of 5) or equal (3)."
+-- what a reply of 1 says: the node is 1 (kind 1), it is 0 (2, 4, and each bad of 5), both have one value (3), "by the values of the given table"
 abbrev pub Claim : (ℕ → Value) → Question → Type 0
 Claim v q =
     elim (eqb (q .kind) alwaysTrue) [
@@ -61,19 +61,19 @@ Claim v q =
       ]
     ]
 
--- "each used reply of yes or unsatisfiable": both are 1
+-- "each reply of 1 that a question took"
 abbrev pub Holds : (ℕ → Value) → Question → Type 0
 Holds v q = q .reply ≡ 1 → Claim v q
 
 abbrev pub RepliesHold : Reading → List Node → (ℕ → Value) → St → Type 0
 RepliesHold how t α σ = All (Holds (worthOf how t α σ)) (σ .asked)
 
--- "no forwarded read passed a write with an unsettled address"; in the standard's reading none can
+-- "no Read that found its value passed an unsettled Write"; in the standard's reading none can
 abbrev pub NonePassed : Reading → Folded → Type 0
 NonePassed rust f = f .state .passed ≡ 0
 NonePassed standard f = Unit
 
--- "each visited node's rewritten row has exactly the value that the node has in the given table" (and each other row too), "each replacement has its node's value, and the condition of each dropped bad state is 0 in the given table"
+-- "every rewritten row, .. is worth what the node is worth in the given table, every replacement .. and the condition of every dropped bad state is 0"
 pub record Keeps (how : Reading) (t : List Node) (f : Folded) (α : ℕ → Value) : Type 0 where
   pub rows : (k : ℕ) → k < length t → worth how (worthOf how t α (f .state)) (α k) (f .state .rows k) ≡ value how (nodeAt t) α k
   pub replacements : (k r : ℕ) → k < length t → f .state .mark k ≡ replaced r → worthOf how t α (f .state) r ≡ value how (nodeAt t) α k
@@ -90,7 +90,7 @@ Sound how t ss f =
 unfoldable pub Demand3OfFold : Type 0
 Demand3OfFold = (m : Model) (how : Mode) (f : Folded) → WellFormed m → fold m how ≡ done f → Sound (how .reading) (m .table) (m .sequentials) f
 
--- "For every model that demand 2's rules fold without refusal, whatever the mode, concrete times and solver replies"
+-- of every model that is folded without refusal, whatever the mode, inputs and replies
 unfoldable pub Demand3 : Type 0
 Demand3 =
     (names : ℕ) (rs : List Row) (dump : ℕ → Bool) (ss initial later inputs replies : List ℕ) (how : Mode) (f : Folded)

@@ -1,4 +1,4 @@
--- What a node folds to, from its rewritten operands (document 01, "Folding"; the fold functions of optimize.rs).
+-- What a node folds to, from its rewritten operands (docs/FORMAT.md, "Folding"; the fold functions of optimize.rs).
 --     Fold     it stays, or another node or a new constant takes its place
 --     constOf  the number of a constant          shared    the shared false or true
 -- In each rule x and y are the rewritten operands, cx and cy their numbers where they are constants, and n is the shared false.
@@ -27,30 +27,30 @@ abbrev pub shared : ℕ → Bool → Fold
 shared n true = swap (n + 1)
 shared n false = swap n
 
--- "Const of sort 1 becomes the shared false or true."
+-- Const "of sort 1: replaced by the shared false or true. Of another sort: stays"
 abbrev pub foldConst : ℕ → ℕ → ℕ → Fold
 foldConst n s x =
     cond (eqb s 1 && eqb x 0) (shared n false)
     (cond (eqb s 1 && eqb x 1) (shared n true)
     stays)
 
--- "Two constant operands fold"; "The constant made has sort 2, also under And and Or of sorts 11 to 17."
+-- "two constants: replaced by a made constant of sort 2", also for an And or an Or of a byte sort
 abbrev pub foldWords : (ℕ → ℕ → ℕ) → Option ℕ → Option ℕ → Fold
 foldWords f none cy = stays
 foldWords f (some x) none = stays
 foldWords f (some x) (some y) = make 2 (f x y)
 
--- "Ult, Eq give shared constants"
+-- "two constants: replaced by the shared true if left is below right, else by the shared false"; so too for Eq, by whether their numbers are equal
 abbrev pub foldTest : ℕ → (ℕ → ℕ → Bool) → Option ℕ → Option ℕ → Fold
 foldTest n f none cy = stays
 foldTest n f (some x) none = stays
 foldTest n f (some x) (some y) = shared n (f x y)
 
--- "Eq of one node with itself is true."
+-- "left and right are the same node now: the shared true. Two constants: true if their numbers are equal, else false"
 abbrev pub foldEq : ℕ → ℕ → ℕ → Option ℕ → Option ℕ → Fold
 foldEq n x y cx cy = cond (eqb x y) (shared n true) (foldTest n same cx cy)
 
--- "Ult, Eq give shared constants; so does Not of sort 1. Not of another sort, over a constant, makes the complement within the Not's width, of the Not's sort"
+-- "of sort 1 the shared true for 0, the shared false for 1; of another sort a made constant of the Not's sort, the complement within its width"
 abbrev pub foldNot : ℕ → ℕ → Option ℕ → Fold
 foldNot n s none = stays
 foldNot n s (some x) =
@@ -58,12 +58,12 @@ foldNot n s (some x) =
     (cond (eqb s 1 && eqb x 1) (shared n false)
     (make s (complement (width s) x)))
 
--- "Ext of a constant makes the same number with sort 2."
+-- "a made constant of sort 2 with the same number"
 abbrev pub foldExt : Option ℕ → Fold
 foldExt none = stays
 foldExt (some x) = make 2 (extend x)
 
--- "And tries left zero, right zero, left ones, right ones; zeros win, ones yield the other side."; all is all ones of the node's sort
+-- "left is 0 (replaced by left), right is 0 (by right), left is all ones of the And's sort (by right), right is all ones (by left), two constants"
 abbrev pub foldAnd : ℕ → ℕ → ℕ → Option ℕ → Option ℕ → Fold
 foldAnd all x y cx cy =
     cond (isConst cx 0) (swap x)
@@ -72,7 +72,7 @@ foldAnd all x y cx cy =
     (cond (isConst cy all) (swap x)
     (foldWords both cx cy))))
 
--- "Or: left zero, right zero yield the other; left ones, right ones win."
+-- "left is 0 (replaced by right), right is 0 (by left), left is all ones of the Or's sort (by left), right is all ones (by right), two constants"
 abbrev pub foldOr : ℕ → ℕ → ℕ → Option ℕ → Option ℕ → Fold
 foldOr all x y cx cy =
     cond (isConst cx 0) (swap y)

@@ -1,4 +1,4 @@
--- The label of a node: a part of the names bytes, or the caller's substitute (document 01, What is handed back).
+-- The label of a node: a part of the names bytes, or the caller's substitute (docs/FORMAT.md, "Entry points and labels").
 --     labelOf            the label's bytes
 -- Assumes nothing.
 use Prim.Native.Nat.{ℕ, zero, suc}
@@ -33,12 +33,12 @@ nameOfNode limits node words names = do
   known ← namesOf limits names
   done (nameOfRow known (at (rowsOf (nodes .count) (nodes .content)) node))
 
--- "A label is either a part of the names bytes or the caller's substitute"
+-- "its name, as a part of the names bytes, or a substitute that you lend"
 abbrev pub orSubstitute : List ℕ → Out (Option (List ℕ)) → List ℕ
 orSubstitute substitute (refused r) = substitute
 orSubstitute substitute (done none) = substitute
 orSubstitute substitute (done (some name)) = name
 
--- "the latter for a node past the table, with name 0 or past the last, or where section 1 or 7 draws 1 or 2"
+-- the substitute "for a node past the table, for one with name 0 or past the last, and where section 1 or the names would draw refusal 1 or 2"
 abbrev pub labelOf : Limits → ℕ → List ℕ → List ℕ → List ℕ → List ℕ
 labelOf limits node words names substitute = orSubstitute substitute (nameOfNode limits node words names)

@@ -32,7 +32,7 @@ IsNew t σ x = (length t ≤ x) × (x < length t + 2 + σ .made)
 abbrev pub SortFor : ℕ → ℕ → Type 0
 SortFor s s₀ = (s ≡ s₀) ⊎ ((s ≡ 2) × (11 ≤ s₀) × (s₀ ≤ 17))
 
--- "each replacement is a constant or stands before its node"
+-- each replacement is a constant or stands before its node
 unfoldable pub ReplacementBefore : Type 0
 ReplacementBefore = OfFolds (λ t σ. (k r : ℕ) → k < length t → σ .mark k ≡ replaced r → (r < k) ⊎ IsNew t σ r)
 

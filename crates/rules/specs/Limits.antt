@@ -1,4 +1,4 @@
--- The house's limits, the room that a call needs, and what a mode adds up (document 01, the house tables; Folding).
+-- The house's limits, the room that a call needs, and what a mode adds up (docs/FORMAT.md, "A call", "Limits and room", "Modes").
 --     Limits, house      the most of everything, and the house's own numbers
 --     need               the words of room
 --     highestMode, modeOf
@@ -18,15 +18,15 @@ pub record Limits : Type 0 where
   pub names : ℕ
   pub nameLength : ℕ
 
--- "At most 4,096 nodes, 1,024 entries in each of sections 2, 3, 4, 4,096 inputs, 16,384 replies, 4,096 names of 0 to 64 bytes."
+-- 4,096 nodes, 1,024 entries in each of sections 2, 3 and 4, 4,096 inputs, 16,384 replies; "at most 4,096 names, of 0 to 64 bytes each"
 abbrev pub house : Limits
 house = record { nodes = 4096; entries = 1024; inputs = 4096; replies = 16384; names = 4096; nameLength = 64 }
 
--- "For n nodes, s sequentials, b bad entries in all and i inputs, result and scratch each need 22n + 5b + s + i + 22 words."
+-- "With n nodes, s sequentials, b bad entries in sections 3 and 4 together and i inputs, result and scratch each need 22n + 5b + s + i + 22 words."
 abbrev pub need : ℕ → ℕ → ℕ → ℕ → ℕ
 need n s b i = 22 * n + 5 * b + s + i + 22
 
--- "a mode above 7 is 1"
+-- refusal 1: "a mode above 7"
 abbrev pub highestMode : ℕ
 highestMode = 7
 
@@ -34,6 +34,6 @@ highestMode = 7
 abbrev pub adds : ℕ → ℕ → Bool
 adds mode part = eqb (mode / part % 2) 1
 
--- "Mode adds 1 minimise, 2 terminate, 4 one-query."
+-- "A mode is the sum of what it asks for: 1 minimise, 2 terminate, 4 one-query."
 abbrev pub modeOf : ℕ → Mode
 modeOf mode = record { minimise = adds mode 1; terminate = adds mode 2; oneQuery = adds mode 4; reading = rust }

@@ -1,4 +1,4 @@
--- What a call hands over, its words cut into sections (document 01, "The house tables", "Folding").
+-- What a call hands over, its words cut into sections (docs/FORMAT.md, "A call", "Modes").
 --     Model   the decoded table, the lists, inputs and replies     Mode   what the mode's bits ask for
 -- Assumes nothing.
 use Prim.Native.Nat.{ℕ}
@@ -21,7 +21,7 @@ abbrev pub modelOf : List Row → (ℕ → Bool) → List ℕ → List ℕ → L
 modelOf rs dump ss initial later ins reps =
     record { table = map decode rs; dump = dump; sequentials = ss; initial = initial; later = later; inputs = ins; replies = reps }
 
--- "Mode adds 1 minimise, 2 terminate, 4 one-query"; the reading says whose operators fold
+-- "A mode is the sum of what it asks for: 1 minimise, 2 terminate, 4 one-query."; the reading says whose operators fold
 pub record Mode : Type 0 where
   pub minimise : Bool
   pub terminate : Bool

@@ -1,4 +1,4 @@
--- The names bytes, section 7: a two-byte count, low byte first, then each name after a one-byte length (document 01, the house tables).
+-- The names bytes, section 7: a two-byte count, low byte first, then each name after a one-byte length (docs/FORMAT.md, "Names").
 --     namesOf            the names in the bytes: refusal 2, then refusal 1
 --     nameOf, dump       name k, and whether it starts with "memory-dump"
 --     nameStart, nameSize   where name k stands in the bytes
@@ -42,12 +42,12 @@ namesOf limits [] = refuse 1 7 0
 namesOf limits (low ∷ []) = refuse 1 7 0
 namesOf limits (low ∷ high ∷ bs) = countedNames limits (low + 256 * high) bs
 
--- "Name k is the k-th name; 0 is none"; none has no bytes, nor has one past the last
+-- "k for the k-th name, from 1, and 0 for none"; none has no bytes, nor has one past the last
 abbrev pub nameOf : List (List ℕ) → ℕ → List ℕ
 nameOf names zero = []
 nameOf names (suc k) = getD names k []
 
--- ---- "unless its name starts with "memory-dump""
+-- ---- "whether its bytes begin with `memory-dump`"
 -- the eleven bytes of memory-dump
 abbrev pub memoryDump : List ℕ
 memoryDump = 109 ∷ 101 ∷ 109 ∷ 111 ∷ 114 ∷ 121 ∷ 45 ∷ 100 ∷ 117 ∷ 109 ∷ 112 ∷ []

@@ -1,4 +1,4 @@
--- Neither of demand 3's premises can be left out: without it there is a call for which the conclusion fails.
+-- Neither of demand 3's premises can be left out: without it there is a call for which the conclusion fails (docs/FORMAT.md, "What you may rely on").
 -- Assumes nothing.
 use Prim.Native.Nat.{ℕ}
 use mathlib.Core.Path.{_≡_}
@@ -20,11 +20,11 @@ OfRuns P =
 abbrev pub Kept : List Row → List ℕ → Mode → Folded → Type 0
 Kept rs ss how f = (α : ℕ → Value) → Faithful (how .reading) (map decode rs) ss (f .state) α → Keeps (how .reading) (map decode rs) f α
 
--- "If no forwarded read passed a write with an unsettled address"
+-- "no Read that found its value passed an unsettled Write"
 unfoldable pub UnsettledNeeded : Type 0
 UnsettledNeeded =
     OfRuns (λ rs ss how f. ((α : ℕ → Value) → Faithful (how .reading) (map decode rs) ss (f .state) α → RepliesHold (how .reading) (map decode rs) α (f .state)) → Kept rs ss how f) → ⊥
 
--- "and each used reply of yes or unsatisfiable holds in every faithful assignment"
+-- "each reply of 1 that a question took holds in every faithful assignment"
 unfoldable pub RepliesNeeded : Type 0
 RepliesNeeded = OfRuns (λ rs ss how f. NonePassed (how .reading) f → Kept rs ss how f) → ⊥

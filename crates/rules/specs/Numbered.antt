@@ -1,4 +1,4 @@
--- The numbers of refusals: from 1 to 14, so an answer with number 0 is an acceptance (document 01, "Refused, by whose hand").
+-- The numbers of refusals: from 1 to 14, so an answer with number 0 is an acceptance (docs/FORMAT.md, "Refusals").
 --     Numbered           what is said of an outcome
 --     RefusalNumbers     of a call's outcome and of a text's
 -- Assumes nothing.

@@ -1,4 +1,4 @@
--- Questions to the solver and the replies that they take (document 01, "Folding", "What is handed back"; the four questions of SMTSolver).
+-- Questions to the solver and the replies that they take (docs/FORMAT.md, "Questions"; the four questions of SMTSolver).
 --     ask        put a question: its reply is the first one left
 --     askBit, askAnd, askIte    what minimise asks about an unfolded node
 -- Assumes nothing.
@@ -11,7 +11,7 @@ use Rattle.rules.specs.Refusal.{Out, done, refuse, _>>=_}
 use Rattle.rules.specs.Walk.{St, Question, addAsked}
 use Rattle.rules.specs.Fold.{Fold, stays, swap, shared}
 
--- "Question kinds: 1 always-true, 2 always-false, 3 equal, 4 satisfiable, 5 always-false of several kept bads"
+-- 1 always true, 2 always false, 3 always equal, 4 satisfiable, 5 all always false
 abbrev pub alwaysTrue : ℕ
 alwaysTrue = 1
 
@@ -27,7 +27,7 @@ satisfiable = 4
 abbrev pub several : ℕ
 several = 5
 
--- "A missing reply counts as 0"
+-- "when none is left its reply is 0"
 abbrev pub firstReply : List ℕ → ℕ
 firstReply [] = 0
 firstReply (r ∷ rs) = r
@@ -36,7 +36,7 @@ abbrev pub otherReplies : List ℕ → List ℕ
 otherReplies [] = []
 otherReplies (r ∷ rs) = rs
 
--- "Replies: 0 no or timeout, 1 yes or unsatisfiable, 2 satisfiable (question 4 only)": the greatest that a question can have
+-- "0 no, or a timeout; 1 yes, or unsatisfiable; 2 satisfiable, which question 4 alone can have": the greatest that a question can have
 abbrev pub most : ℕ → ℕ
 most q = cond (eqb q satisfiable) 2 1
 
@@ -48,7 +48,7 @@ abbrev pub quiet : St → Out (St × Fold)
 quiet σ = done (σ, stays)
 
 module _ (replyCount : ℕ) where
-  -- refusal 11, "a reply its question can't have", names the reply; "a reply never asked for is not judged"
+  -- refusal 11, "a reply that its question cannot have", names the reply; "A reply that no question takes is not looked at."
   unfoldable pub ask : St → ℕ → ℕ → ℕ → List ℕ → Out (St × ℕ)
   ask σ q x y bs =
       elim (leb (firstReply (σ .replies)) (most q)) [
@@ -56,13 +56,13 @@ module _ (replyCount : ℕ) where
         | false ↦ refuse 11 6 (replyCount - length (σ .replies))
       ]
 
-  -- "The first yes ends the asking"
+  -- "The first 1 ends a node's asking."
   unfoldable pub askOr : ℕ → ℕ → ℕ → Fold → (St → Out (St × Fold)) → St → Out (St × Fold)
   askOr q x y f more σ = do
     (σ′, r) ← ask σ q x y []
     elim (eqb r 1) [ true ↦ done (σ′, f) | false ↦ more σ′ ]
 
-  -- "asks always-true, then always-false": "the shared true or false ... replaces the node"
+  -- "1, then 2": "the shared true, the shared false"
   abbrev pub askBit : ℕ → ℕ → (St → Out (St × Fold)) → St → Out (St × Fold)
   askBit n k more = askOr alwaysTrue k 0 (shared n true) (askOr alwaysFalse k 0 (shared n false) more)
 
@@ -70,7 +70,7 @@ module _ (replyCount : ℕ) where
   abbrev pub askAnd : ℕ → ℕ → ℕ → St → Out (St × Fold)
   askAnd n s k = cond (eqb s 1) (askBit n k quiet) quiet
 
-  -- "that Ite then asks whether it equals its condition. An Ite of sort 2 asks whether it equals left, then right."
+  -- of sort 1: "1, then 2, then 3 about its condition"; of sort 2: "3 about its first branch, then 3 about its second"
   abbrev pub askIte : ℕ → ℕ → ℕ → ℕ → ℕ → ℕ → St → Out (St × Fold)
   askIte n s k x y z =
       cond (eqb s 1) (askBit n k (askOr equal k x (swap x) quiet))

@@ -1,4 +1,4 @@
--- Refusals and outcomes (document 01, "Refused, by whose hand").
+-- Refusals and outcomes (docs/FORMAT.md, "Refusals").
 --     Refusal   its number, section and position       Out       refused, or done with something
 --     _>>=_     what comes next, unless refused        firstOf   the first of several refusals, in order
 -- Assumes nothing.
@@ -8,7 +8,7 @@ use mathlib.Core.Option.{Option, none, some}
 use mathlib.Core.List.{List, [], _∷_}
 
 infixl 10 _>>=_
--- "Each carries number, section, position."
+-- "a number, a section and a position"
 pub record Refusal : Type 0 where
   pub reason : ℕ
   pub section : ℕ

@@ -1,4 +1,4 @@
--- What is handed back, as words (document 01, "What is handed back").
+-- The result of an accepted call, as words (docs/FORMAT.md, "Result").
 --     resultWords   the nine result sections, each after its count
 -- Assumes nothing.
 use Prim.Native.Nat.{ℕ, zero, suc, _+_, _-_, _*_}
@@ -13,11 +13,11 @@ use Rattle.rules.specs.Whole.{Folded}
 abbrev pub nodeWords : Node → List ℕ
 nodeWords nd = kindCode (nd .kind) ∷ nd .sort ∷ nd .a ∷ nd .b ∷ nd .c ∷ nd .name ∷ []
 
--- "made constants (sort, number)"
+-- "constants: sort, number"
 abbrev pub constWords : Node → List ℕ
 constWords nd = nd .sort ∷ nd .a ∷ []
 
--- "replacements (node, replacement) by rising node"
+-- "replacements: node, what stands for it now, by rising node"
 abbrev pub markWords : ℕ → Mark → List ℕ
 markWords k fresh = []
 markWords k kept = []
@@ -33,7 +33,7 @@ unfoldable pub gather : ℕ → ℕ → (ℕ → List ℕ) → List ℕ
 gather zero k f = []
 gather (suc c) k f = f k ++ gather c (suc k) f
 
--- "questions (kind, first, second, reply)"
+-- "questions in the order in which they were put: kind, first, second, reply"
 unfoldable pub questionWords : List Question → List ℕ
 questionWords [] = []
 questionWords (q ∷ qs) = q .kind ∷ q .first ∷ q .second ∷ q .reply ∷ questionWords qs
@@ -42,12 +42,12 @@ questionWords (q ∷ qs) = q .kind ∷ q .first ∷ q .second ∷ q .reply ∷ q
 abbrev pub listed : List ℕ → List ℕ
 listed xs = length xs ∷ xs
 
--- "Tally: inputs taken, replies taken from section 6, writes looked at, unsettled writes passed by reads that found a value, verdict"
+-- "the tally, five figures": inputs taken, replies taken, writes looked at, unsettled writes passed, the verdict
 abbrev pub tallyOf : Model → Folded → List ℕ
 tallyOf m f =
     (length (m .inputs) - length (f .state .inputs)) ∷ (length (m .replies) - length (f .state .replies)) ∷ f .state .looked ∷ f .state .passed ∷ f .verdict ∷ []
 
--- "Result sections: rewritten nodes; made constants; replacements; the three kept lists; inputs left; questions; a tally of 5."
+-- "nine sections in result, each after its count": nodes, constants, replacements, three kept lists, inputs left, questions, the tally
 unfoldable pub resultWords : Model → Folded → List (List ℕ)
 resultWords m f =
     let n : ℕ = length (m .table) in

@@ -1,4 +1,4 @@
--- What a fold may spend, and the room of its result (document 01, "The house tables").
+-- What a fold may spend, and the room of its result (docs/FORMAT.md, "Limits and room").
 --     unpaid     what the nodes not yet visited may still spend: each pays once, when it is visited
 --     RoomRule   the result's words never exceed 22n + 5b + s + i + 22
 -- Assumes nothing.

@@ -1,4 +1,4 @@
--- Sections 1 to 6 of the words, each after its count, and the words of given sections (document 01, the house tables).
+-- Sections 1 to 6 of the words, each after its count, and the words of given sections (docs/FORMAT.md, "A call").
 --     Sections           what stands in the six sections
 --     cutSection         one section off the words: refusal 2, then refusal 1
 --     cutSix, cut        the six in order, with what follows them, and with nothing after them
@@ -14,7 +14,7 @@ use Rattle.rules.specs.Table.{Row, rowWidth}
 use Rattle.rules.specs.Result.{listed}
 use Rattle.rules.specs.Limits.{Limits}
 
--- "Sections in fixed order, each after its count: 1 nodes, 2 sequentials, 3 initial bads, 4 sequential bads, 5 inputs, 6 replies."
+-- "six sections in this order, each after its count": nodes, sequentials, initial bads, sequential bads, inputs, replies
 pub record Sections : Type 0 where
   pub rows : List Row
   pub sequentials : List ℕ
@@ -29,7 +29,7 @@ pub record Part : Type 0 where
   pub content : List ℕ
   pub rest : List ℕ
 
--- "1 a section short", "2 a count over its limit (position 0)", "each 2 before 1"; width words for each that is counted
+-- 1: "a section is short"; 2: "a count .. is over its limit"; "in each 2 before 1"; width words for each that is counted
 unfoldable pub cutSection : ℕ → ℕ → ℕ → List ℕ → Out Part
 cutSection section limit width [] = refuse 1 section 0
 cutSection section limit width (count ∷ ws) =
@@ -61,7 +61,7 @@ cutSix limits ws = do
   replies ← cutSection 6 (limits .replies) 1 (inputs .rest)
   done (record { rows = rowsOf (nodes .count) (nodes .content); sequentials = sequentials .content; initial = initial .content; later = later .content; inputs = inputs .content; replies = replies .content }, replies .rest)
 
--- "1 .. words left over after the last (position 0; section 6 for words, 7 for names)"
+-- 1: "something is left over after the last (section 6 for words, 7 for names)", position 0
 abbrev pub noneLeft : {A : Type 0} → ℕ → A → List ℕ → Out A
 noneLeft section x [] = done x
 noneLeft section x (w ∷ ws) = refuse 1 section 0

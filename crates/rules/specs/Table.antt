@@ -1,4 +1,4 @@
--- A table of nodes (document 01, "The house tables"; Node of mod.rs).
+-- A table of nodes (docs/FORMAT.md, "Nodes"; Node of mod.rs).
 --     Row, rowWidth   a node as six words        Kind, kinds, kindCode   the 22 kinds and their codes
 --     Node, decode    the node that a row is     operands                the numbers that a node names
 -- Assumes nothing.
@@ -28,7 +28,7 @@ pub data Kind : Type 0 where
   Word : Op → Kind
   Ult Ext Ite Eq And Or Not State Next Input Bad : Kind
 
--- "Kinds 1 (Const) to 22 (Bad) follow Node's order."
+-- in the order of their codes, 1 to 22, which is that of the Rust's Node
 abbrev pub kinds : List Kind
 kinds =
     Const ∷ Read ∷ Write ∷ Word Add ∷ Word Sub ∷ Word Mul ∷ Word Divu ∷ Word Div ∷ Word Rem ∷ Word Sll ∷ Word Srl
@@ -94,7 +94,7 @@ unknown = record { kind = Input; sort = 0; a = 0; b = 0; c = 0; name = 0 }
 abbrev pub nodeAt : List Node → ℕ → Node
 nodeAt t k = getD t k unknown
 
--- "Operands stand in a, b, c in the Rust's order": Const's a, Ext's b and State's b are none, and State's a only where b is 1
+-- "Operands stand in a, b, c in the order of the table below": Const's a, Ext's b and State's b are none, and State's a only where b is 1
 abbrev pub operandsAs : Kind → Node → List ℕ
 operandsAs Const nd = []
 operandsAs Read nd = nd .a ∷ nd .b ∷ []

@@ -1,4 +1,4 @@
--- The tally's five figures are what document 01 says of them ("What is handed back").
+-- The tally's five figures are what is said of them (docs/FORMAT.md, "Result", "Reads", "One-query").
 --     LookedRule    the writes looked at never exceed the visited Reads times the table's Writes
 --     TakenRule     inputs and replies are taken in order, one for each state and each question
 --     PassedRule    unsettled writes are passed only by reads that found a value
@@ -32,7 +32,7 @@ ifVisited x fresh = 0
 ifVisited x kept = x
 ifVisited x (replaced r) = x
 
--- "the table's Writes, visited or not"
+-- "the table's Writes", visited or not
 unfoldable pub writes : List Node → ℕ
 writes t = sum (length t) (λ k. bit (is Write (nodeAt t k)))
 
@@ -44,7 +44,7 @@ LookedRule =
     (m : Model) (how : Mode) (f : Folded) → WellFormed m → fold m how ≡ done f
     → f .state .looked ≤ visitedReads (m .table) (f .state .mark) * writes (m .table)
 
--- ---- "inputs taken, replies taken from section 6"
+-- ---- inputs taken and replies taken
 abbrev pub replyAt : List Question → ℕ → ℕ
 replyAt qs i = getD qs i (record { kind = 0; first = 0; second = 0; reply = 0; bads = [] }) .reply
 
@@ -70,7 +70,7 @@ pub record Taken (m : Model) (f : Folded) : Type 0 where
 unfoldable pub TakenRule : Type 0
 TakenRule = (m : Model) (how : Mode) (f : Folded) → WellFormed m → fold m how ≡ done f → Taken m f
 
--- ---- "unsettled writes passed by reads that found a value": what a Read at a constant address adds, of what its walk r found
+-- ---- "The unsettled Writes that it passed": what a Read at a constant address adds, of what its walk r found
 pub record Added (σ : St) (r : Found) (σ′ : St) : Type 0 where
   pub looked : σ′ .looked ≡ σ .looked + r .looked
   pub lost : r .value ≡ none → σ′ .passed ≡ σ .passed
@@ -90,7 +90,7 @@ ifReplaced x fresh = 0
 ifReplaced x kept = 0
 ifReplaced x (replaced r) = x
 
--- "A forwarded read found its value in a write": a Read that is replaced, since no question is put about one
+-- "the Reads that found a value": those that are replaced, since no question is put about one
 unfoldable pub forwardedReads : List Node → (ℕ → Mark) → ℕ
 forwardedReads t mark = sum (length t) (λ k. ifReplaced (bit (is Read (nodeAt t k))) (mark k))
 
@@ -115,7 +115,7 @@ pub record OthersAddNone (t : List Node) (ways : Ways) (σ : St) : Type 0 where
 unfoldable pub OthersRule : Type 0
 OthersRule = (t : List Node) (ways : Ways) (σ : St) → OthersAddNone t ways σ
 
--- ---- "verdict (0 not one-query, 1 found, 2 not found, 3 folding removed all)"
+-- ---- the verdict, "0 without one-query; else 1, 2 or 3"
 abbrev pub lastReply : List Question → ℕ
 lastReply [] = 0
 lastReply (q ∷ []) = q .reply

@@ -1,4 +1,4 @@
--- The program's text form: from all bytes of standard input to all bytes of standard output (document 01, Noon itself).
+-- The program's text form: from all bytes of standard input to all bytes of standard output (docs/FORMAT.md, "The program's text").
 --     tokens, numberOf, numbers   the text as decimal numbers, with the refusals of reading
 --     afterNumbers, textOutcome   mode, sections 1 to 6 and names in the numbers, then as a call
 --     printed, program   what is printed; from bytes to bytes
@@ -14,16 +14,16 @@ use Rattle.rules.specs.Sections.{cutSix}
 use Rattle.rules.specs.Names.{countedNames}
 use Rattle.rules.specs.Call.{impl, Accepted, judgeMode, judgeCut, sectionsOf}
 
--- "anything after 4,096 numbers is 2"
+-- "The program has room for 4,096 numbers and for 4,096 words of result"
 abbrev pub mostNumbers : ℕ
 mostNumbers = 4096
 
--- "Needing over 4,096 result words is 12."
+-- "A call that needs more than 4,096 words is 12."
 abbrev pub programRoom : ℕ
 programRoom = 4096
 
 -- ---- the text as tokens
--- "blanks or line ends between": space, tab, carriage return, line feed
+-- "blanks, tabs, carriage returns or line ends"
 abbrev pub separates : ℕ → Bool
 separates b = eqb b 32 || eqb b 9 || eqb b 13 || eqb b 10
 
@@ -37,7 +37,7 @@ unfoldable pub tokensAfter : List ℕ → List ℕ → List (List ℕ)
 tokensAfter begun [] = ended begun []
 tokensAfter begun (b ∷ bs) = elim (separates b) [ true ↦ ended begun (tokensAfter [] bs) | false ↦ tokensAfter (begun ++ (b ∷ [])) bs ]
 
--- "One program reads decimal numbers (blanks or line ends between) from standard input"
+-- "The text is decimal numbers with blanks, tabs, carriage returns or line ends between them"
 abbrev pub tokens : List ℕ → List (List ℕ)
 tokens bytes = tokensAfter [] bytes
 
@@ -60,13 +60,13 @@ decimalFrom x (b ∷ bs) = decimalFrom (x * 10 + (b - 48)) bs
 unfoldable pub numberOf : List ℕ → Option ℕ
 numberOf token = elim (allDigits token && ltb (decimalFrom 0 token) (2 ^ 64)) [ true ↦ some (decimalFrom 0 token) | false ↦ none ]
 
--- ---- "First, in reading order": the numbers, from a place on
--- "text that is no number below 2^64, or a mode .. above 7, is refusal 1, section 0, its position from 0"
+-- ---- "in reading order": the numbers, from a place on
+-- "text that is no such number, and a mode that is .. above 7, as 1, section 0, with the place of that number in the text from 0"
 abbrev pub judgeNumber : ℕ → Option ℕ → Out ℕ
 judgeNumber place none = refuse 1 0 place
 judgeNumber place (some x) = elim (eqb place 0 && ltb highestMode x) [ true ↦ refuse 1 0 place | false ↦ done x ]
 
--- "anything after 4,096 numbers is 2, section 0, position 4096"
+-- "anything after 4,096 numbers as 2, section 0, position 4096"
 unfoldable pub judgeToken : ℕ → Option ℕ → Out ℕ
 judgeToken place x = elim (leb mostNumbers place) [ true ↦ refuse 2 0 mostNumbers | false ↦ judgeNumber place x ]
 
@@ -78,7 +78,7 @@ numbersFrom place (t ∷ ts) = do
   xs ← numbersFrom (suc place) ts
   done (x ∷ xs)
 
--- "a mode missing"
+-- "a mode that is missing"
 abbrev pub withMode : List ℕ → Out (ℕ × List ℕ)
 withMode [] = refuse 1 0 0
 withMode (mode ∷ xs) = done (mode, xs)
@@ -87,8 +87,8 @@ withMode (mode ∷ xs) = done (mode, xs)
 unfoldable pub numbers : List ℕ → Out (ℕ × List ℕ)
 numbers bytes = numbersFrom 0 (tokens bytes) >>= withMode
 
--- ---- "then names as count, and length and byte values each"
--- no "byte value above 255" in a name
+-- ---- "then the names as numbers: how many, and for each its length and its bytes"
+-- no "byte above 255" in a name
 unfoldable pub allBytes : List ℕ → Bool
 allBytes [] = true
 allBytes (x ∷ xs) = ltb x 256 && allBytes xs
@@ -98,16 +98,16 @@ unfoldable pub allNameBytes : List (List ℕ) → Bool
 allNameBytes [] = true
 allNameBytes (name ∷ names) = allBytes name && allNameBytes names
 
--- "a byte value above 255 is 1, section 7"
+-- "A byte above 255 in a name is 1, section 7"
 abbrev pub judgeBytes : List (List ℕ) → Out (List (List ℕ))
 judgeBytes names = elim (allNameBytes names) [ true ↦ done names | false ↦ refuse 1 7 0 ]
 
--- "Name counts and lengths follow refusal 2": byte values are judged after all of them, so 2 is before 1 over the whole section
+-- "after the counts and lengths of all names were judged": so 2 is before 1 over the whole section
 unfoldable pub namesInNumbers : Limits → List ℕ → Out (List (List ℕ))
 namesInNumbers limits [] = refuse 1 7 0
 namesInNumbers limits (count ∷ xs) = countedNames limits count xs >>= judgeBytes
 
--- "mode, sections 1 to 6, then names"; then as the call, with room for 4,096 words in result and scratch
+-- "the mode; the six sections, each after its count; then the names"; then as the call, with room for 4,096 words in result and scratch
 unfoldable pub afterNumbers : Limits → ℕ × List ℕ → Out Accepted
 afterNumbers limits (mode, xs) = do
   how ← judgeMode mode
@@ -139,7 +139,7 @@ abbrev pub line : List ℕ → List ℕ
 line [] = 10 ∷ []
 line (x ∷ xs) = decimal x ++ (blanked xs ++ (10 ∷ []))
 
--- "a line per result section"
+-- "one line for each of the nine sections of the result, its count first"
 unfoldable pub lines : List (List ℕ) → List ℕ
 lines [] = []
 lines (xs ∷ xss) = line xs ++ lines xss
@@ -152,7 +152,7 @@ acceptedWord = 97 ∷ 99 ∷ 99 ∷ 101 ∷ 112 ∷ 116 ∷ 101 ∷ 100 ∷ []
 abbrev pub refusedWord : List ℕ
 refusedWord = 114 ∷ 101 ∷ 102 ∷ 117 ∷ 115 ∷ 101 ∷ 100 ∷ []
 
--- "It prints `accepted` and a line per result section, or `refused` and three numbers on one line."
+-- "It prints `accepted` and one line for each of the nine sections of the result, .. or `refused` and the number, section and position on one line."
 abbrev pub printed : Out Accepted → List ℕ
 printed (done a) = acceptedWord ++ (10 ∷ lines (sectionsOf a))
 printed (refused r) = refusedWord ++ (blanked (r .reason ∷ r .section ∷ r .position ∷ []) ++ (10 ∷ []))

@@ -1,4 +1,4 @@
--- What a node is worth under an assignment (document 01, "Demand 3's values").
+-- What a node is worth under an assignment (docs/FORMAT.md, "What you may rely on").
 --     Value     a whole number, or a memory           meaning   a row's value, from its operands' values
 --     value     the value of each node of a table     Fits      a value that a sort can have
 -- Assumes nothing.
@@ -9,7 +9,7 @@ use Rattle.btor.specs.Operators.{Reading, Memory, compute, both, either, comple
 use Rattle.btor.specs.Sorts.{width}
 use Rattle.rules.specs.Table.{Kind, Const, Read, Write, Word, Ult, Ext, Ite, Eq, And, Or, Not, State, Next, Input, Bad, Node}
 
--- "whole numbers (memories: one below 2^64 at each address)"
+-- "Values are whole numbers, and for a memory a number below 2^64 at each address"
 pub data Value : Type 0 where
   number : ℕ → Value
   memory : Memory → Value
@@ -25,7 +25,7 @@ mem (memory f) j = f j
 abbrev pub written : Value → Value → Value → Value
 written m x v = memory (write (mem m) (num x) (num v))
 
--- "under the operators above. A State or Input has what the assignment gives it, also with an init ...; a Bad has its condition's value, a Next its second operand's"
+-- "a State has what the assignment gives it also where it has an init. A Bad has its condition's value, a Next its next value's, a constant its number."
 abbrev pub meaning : Reading → Kind → (ℕ → Value) → Value → Node → Value
 meaning how Const v own nd = number (nd .a)
 meaning how Read v own nd = number (read (mem (v (nd .a))) (num (v (nd .b))))
@@ -67,7 +67,7 @@ valueBy how rows own = over (number 0) (valueStep how own) rows
 unfoldable pub value : Reading → (ℕ → Node) → (ℕ → Value) → ℕ → Value
 value how rows α = valueBy how rows (λ v. α)
 
--- "and it fits the sort"
+-- "a value that fits its sort"
 abbrev pub Fits : ℕ → Value → Type 0
 Fits s (number x) = (s ≢ 3) × (x < 2 ^ width s)
 Fits s (memory f) = (s ≡ 3) × ((j : ℕ) → f j < 2 ^ 64)

@@ -1,4 +1,4 @@
--- Visiting a node and rewriting it (document 01, "Folding"; visit, process_fold and process_solve of optimize.rs).
+-- Visiting a node and rewriting it (docs/FORMAT.md, "Folding", "Inputs", "Questions"; visit, process_fold and process_solve of optimize.rs).
 --     process   visits the operands in order, sets the row, and records what the node then folds to
 --     visit     once: later visits give the recorded replacement; the fuel is above the node
 -- The visiting function is an argument of process, so that only visit recurses.
@@ -39,7 +39,7 @@ notReplaced k fresh σ = done σ
 notReplaced k kept σ = done σ
 notReplaced k (replaced r) σ = refuse 9 1 k
 
--- ---- "Operands are visited in order and rewritten."
+-- ---- "A visit of a node first visits its operands in order and puts what stands for each of them into the node's row."
 module _ (vis : St → ℕ → Out (St × ℕ)) where
   unfoldable pub visit1 : St → ℕ → Node → Out (St × ℕ)
   visit1 σ k nd = do
@@ -60,7 +60,7 @@ module _ (vis : St → ℕ → Out (St × ℕ)) where
     done (setRow σ₃ k (with nd x y z), (x, y, z))
 
 module _ (t : List Node) (ways : Ways) where
-  -- "then constants in order of making"
+  -- "then constants in the order in which they are made"
   abbrev pub newNumber : St → ℕ
   newNumber σ = length t + 2 + σ .made
 
@@ -70,7 +70,7 @@ module _ (t : List Node) (ways : Ways) where
   settle k σ (swap r) = done (setMark σ k (replaced r), r)
   settle k σ (make s x) = done (setMark (addConst σ (newNumber σ) s x) k (replaced (newNumber σ)), newNumber σ)
 
-  -- "Under minimise, an unfolded" node asks
+  -- "Under minimise these nodes ask, .. once their operands are visited and if they did not fold"
   unfoldable pub finishStay : Bool → ℕ → St → (St → Out (St × Fold)) → Out (St × ℕ)
   finishStay true k σ more = more σ >>= λ p. settle k (p .0) (p .1)
   finishStay false k σ more = settle k σ stays
@@ -87,8 +87,8 @@ module _ (t : List Node) (ways : Ways) where
       let r : Found = find (ways .reading) (length t) (σ .rows) x m in
       settle k (addTally σ (r .looked) (passedBy (r .value) (r .unsettled))) (foldFound (r .value))
 
-  -- a State without init "takes the first input left, if any, unless its name starts with "memory-dump"; a new constant of its sort, never a shared one, replaces it"
-  -- 8: "a memory State would take an input"; 10: "an input too wide for its state"
+  -- a State without init "takes the first input left and is replaced by a constant made for it"; not where "no input is left, or its name begins with `memory-dump`"
+  -- 8: "a memory State would take an input"; 10: "an input is too wide for its state"
   unfoldable pub takeInput : St → ℕ → Node → List ℕ → Out (St × ℕ)
   takeInput σ k nd [] = settle k σ stays
   takeInput σ k nd (x ∷ xs) =
@@ -114,7 +114,7 @@ module _ (t : List Node) (ways : Ways) where
       (σ₁, xy) ← visit2 vis σ k nd
       finish k σ₁ (fold (xy .0) (xy .1) (constOf (σ₁ .rows) (xy .0)) (constOf (σ₁ .rows) (xy .1))) more
 
-    -- "Ite visits its condition first. If that is constant, only the chosen branch is visited, and replaces it."
+    -- "An Ite visits its condition first. If that is a constant, only the chosen branch is visited, and what stands for it replaces the Ite"
     unfoldable pub iteOn : St → ℕ → Node → ℕ → Branch → Out (St × ℕ)
     iteOn σ k nd x left = do
       (σ₁, y) ← vis σ (nd .b)
@@ -127,7 +127,7 @@ module _ (t : List Node) (ways : Ways) where
       (σ₂, z) ← vis σ₁ (nd .c)
       finish k (setRow σ₂ k (with nd x y z)) stays (askIte (ways .replyCount) (length t) (nd .sort) k x y z)
 
-    -- "Next visits state, then next. A State with an init visits it."
+    -- a Next "visits its state, then its next value"; a State "with an init: stays, and its row has what stands for the init"
     unfoldable pub process : Kind → St → ℕ → Node → Out (St × ℕ)
     process Const σ k nd = settle k σ (foldConst (length t) (nd .sort) (nd .a))
     process Read σ k nd = do
@@ -155,7 +155,7 @@ module _ (t : List Node) (ways : Ways) where
     process Input σ k nd = settle k σ stays
     process Bad σ k nd = unary σ k nd (λ x. stays)
 
-  -- "A node is visited once; later visits give its recorded replacement."
+  -- "A node is visited once; a later visit gives what stands for it: its replacement if it has one, else the node itself."
   abbrev pub visitMarked : (vis : St → ℕ → Out (St × ℕ)) → Mark → St → ℕ → Out (St × ℕ)
   visitMarked vis fresh σ k = process vis (nodeAt t k .kind) σ k (nodeAt t k)
   visitMarked vis kept σ k = done (σ, k)

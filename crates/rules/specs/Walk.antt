@@ -13,7 +13,7 @@ pub data Mark : Type 0 where
   fresh kept : Mark
   replaced : ℕ → Mark
 
--- "questions (kind, first, second, reply)", and for kind 5 the bads that it is about
+-- "kind, first, second, reply", and for kind 5 the bads that it is about
 pub record Question : Type 0 where
   pub kind : ℕ
   pub first : ℕ
@@ -38,7 +38,7 @@ pub record St : Type 0 where
   pub looked : ℕ
   pub passed : ℕ
 
--- "New numbers: n is false, n+1 true, then constants in order of making"
+-- "n is the shared false, n + 1 the shared true, both of sort 1; then constants in the order in which they are made"
 abbrev pub startRows : List Node → ℕ → Node
 startRows t k = getD (t ++ (constant 1 0 ∷ constant 1 1 ∷ [])) k unknown
 

@@ -1,4 +1,4 @@
--- The whole fold (document 01, "Folding"; should_retain_sequential, should_retain_bad_state and optimize_model_impl).
+-- The whole fold (docs/FORMAT.md, "Folding", "Bad states", "One-query"; should_retain_sequential, should_retain_bad_state and optimize_model_impl).
 --     judgeSequentials   which Nexts are dropped, on the table as given        judgeBads   which bads of a list are dropped
 --     fold               sequentials, initial bads, sequential bads            run         refusals 3 to 7, then the fold
 -- Assumes nothing.
@@ -20,17 +20,17 @@ use Rattle.rules.specs.Visit.{Ways, visitTop}
 abbrev pub waysOf : Model → Mode → Ways
 waysOf m how = record { dump = m .dump; minimise = how .minimise; replyCount = length (m .replies); reading = how .reading }
 
--- ---- "All sequentials are judged first, on the table as given."
+-- ---- "First all sequentials are judged, on the table as given"
 abbrev pub sameConst : Option ℕ → Option ℕ → Bool
 sameConst none cy = false
 sameConst (some x) cy = isConst cy x
 
 module _ (t : List Node) where
-  -- "A Next is dropped ... when next is the state itself, or when init and next are Consts of equal number."
+  -- "a Next is dropped when its next value is the state itself, or when init and next value are Consts of the table with equal numbers"
   abbrev pub trivial : Node → Bool
   trivial nx = eqb (nx .a) (nx .b) || sameConst (constOf (nodeAt t) (nodeAt t (nx .a) .a)) (constOf (nodeAt t) (nx .b))
 
-  -- "and its state replaced by its init (as it stands, unvisited)"
+  -- "The state of a dropped Next is replaced by its init, as it stands and unvisited"
   abbrev pub dropNext : St → Node → St
   dropNext σ nx = setMark σ (nx .a) (replaced (nodeAt t (nx .a) .a))
 
@@ -65,13 +65,13 @@ abbrev pub noted : Judgement → ℕ → Bads → Bads
 noted v b r = record { after = r .after; stay = ifStays v b (r .stay); dropped = ifDropped v b (r .dropped) }
 
 module _ (t : List Node) (ways : Ways) where
-  -- "Kept ones are then visited in order"
+  -- "the kept Nexts are visited in order"
   unfoldable pub visitAll : St → List ℕ → Out St
   visitAll σ [] = done σ
   visitAll σ (k ∷ ks) = visitTop t ways σ k >>= λ p. visitAll (p .0) ks
 
   module _ (solver terminate : Bool) (section : ℕ) where
-    -- "unsatisfiable drops it, satisfiable keeps it or is refusal 14 under terminate, 0 keeps it"
+    -- "Reply 1 drops it; 0 keeps it; 2 keeps it, and is refusal 14 under terminate."
     abbrev pub byReply : ℕ → St → ℕ → Out (St × Judgement)
     byReply place σ r =
         elim (eqb r 1) [
@@ -79,7 +79,7 @@ module _ (t : List Node) (ways : Ways) where
           | false ↦ elim (eqb r 2 && terminate) [ true ↦ refuse 14 section place | false ↦ done (σ, stay) ]
         ]
 
-    -- "A bad with condition 0 is dropped. With 1 it stays, or is refusal 13 under terminate. Otherwise question 4 is put about its rewritten condition"
+    -- "the constant 0: it is dropped"; "the constant 1: it is kept; under terminate it is refusal 13"; "anything else: question 4 is put"
     abbrev pub judgeBad : ℕ → St → ℕ → Option ℕ → Out (St × Judgement)
     judgeBad place σ c x =
         elim (isConst x 0) [
@@ -114,11 +114,11 @@ module _ (m : Model) (how : Mode) where
   abbrev pub bads : Bool → Bool → ℕ → St → List ℕ → Out Bads
   bads solver terminate section σ bs = judgeBads (m .table) (waysOf m how) solver terminate section 0 σ bs
 
-  -- "reply 1 means not found, 0 found": "1 found, 2 not found"
+  -- "2 after the reply 1 (none can be found), and 1 after the reply 0"
   abbrev pub verdictOf : ℕ → ℕ
   verdictOf r = cond (eqb r 1) 2 1
 
-  -- "then one always-false question covers the initial bads left, if any (kind 2 about the Bad itself if one is left)"; "3 folding removed all"
+  -- "with one entry left question 2 about the Bad itself; with several, counted as entries, question 5; with none no question"; then the verdict is 3
   unfoldable pub lastQuestion : St → List ℕ → Out (St × ℕ)
   lastQuestion σ [] = done (σ, 3)
   lastQuestion σ (b ∷ []) = do
@@ -128,7 +128,7 @@ module _ (m : Model) (how : Mode) where
     (σ₁, r) ← ask (length (m .replies)) σ several (length (b ∷ b′ ∷ bs)) 0 (b ∷ b′ ∷ bs)
     done (σ₁, verdictOf r)
 
-  -- "then initial bads, then sequential bads"; "Under one-query, initial bads alone are visited, without that question and with terminate on, and section 4 is kept as given"
+  -- "then the initial bads, then the sequential bads"; "Under one-query, initial bads alone are visited. No question 4 is put", "section 4 comes back as it was given"
   unfoldable pub foldBads : Bool → St → List ℕ → Out Folded
   foldBads true σ seqs = do
     i ← bads false true 3 σ (m .initial)
@@ -144,6 +144,6 @@ module _ (m : Model) (how : Mode) where
       let j : St × List ℕ = judgeSequentials (m .table) (start (m .table) (m .inputs) (m .replies)) (m .sequentials) in
       visitAll (m .table) (waysOf m how) (j .0) (j .1) >>= λ σ. foldBads (how .oneQuery) σ (j .1)
 
--- "nodes ...; lists ...; then the walk as met", on words that stand in their sections
+-- "the nodes, rising, .. the lists in order, .. as the walk meets them", on words that stand in their sections
 unfoldable pub run : ℕ → List Row → Model → Mode → Out Folded
 run names rs m how = unlessRefused (check names rs m) (fold m how)

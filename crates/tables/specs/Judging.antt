@@ -41,7 +41,7 @@ pub record IsCut (ws : List ℕ) (s : Sections) : Type 0 where
   pub whole : cut house ws ≡ done (sectionsIn ws s)
   pub inside : Inside ws s
 
--- "operand not before its node" holds of no node
+-- 4, "an operand is not before its node", is drawn by no node
 abbrev pub OperandsBefore : List Node → Type 0
 OperandsBefore t = (k : ℕ) → k < length t → rule4 k (nodeAt t k) ≡ true
 

@@ -1,4 +1,4 @@
--- What the functions over the names bytes answer, by the rules' own reading of section 7 (document 01, the house tables).
+-- What the functions over the names bytes answer, by the rules' own reading of section 7 (docs/FORMAT.md, "Names").
 --     countOf, namesCount   how many names there are, or the refusal
 --     readOf, readAt     the name whose length byte stands at a place, or the refusal
 --     placed, placeOf    where name k stands
@@ -45,7 +45,7 @@ readOf (reads.Refused r) = refused (refusalOf r)
 unfoldable pub readAt : List ℕ → ℕ → Out (ℕ × ℕ)
 readAt bs at = cutNames house 1 (drop at bs) >>= λ p. done (at + 1, getD bs at 0)
 
--- ---- "Name k is the k-th name; 0 is none": where its bytes start, and how many they are, if the bytes are not refused and it is one of their names
+-- ---- "k for the k-th name, from 1, and 0 for none": where its bytes start, and how many they are, if the bytes are not refused and have a name k
 abbrev pub placed : NamePlace → Option (ℕ × ℕ)
 placed (At start len) = some (start, len)
 placed Nowhere = none
@@ -61,7 +61,7 @@ placeAmong bs k (done names) = placeIf bs k (named names k)
 abbrev pub placeOf : List ℕ → ℕ → Option (ℕ × ℕ)
 placeOf bs k = placeAmong bs k (namesOf house bs)
 
--- ---- "its name starts with "memory-dump"": no name does where the bytes are refused
+-- ---- "whether its bytes begin with `memory-dump`": no name's do where the bytes are refused
 unfoldable pub dumpAmong : Out (List (List ℕ)) → ℕ → Bool
 dumpAmong (refused r) k = false
 dumpAmong (done names) k = dump names k

@@ -1,4 +1,4 @@
--- The number, section and position of each refusal (document 01, "Refused, by whose hand").
+-- The number, section and position of each refusal (docs/FORMAT.md, "Refusals").
 -- Assumes nothing.
 use Prim.Native.Nat.{ℕ}
 use Rattle.rules.specs.Refusal as rules

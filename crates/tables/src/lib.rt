@@ -1,4 +1,4 @@
-// House tables: cutting words and names bytes into sections, judging nodes and lists, labels. Every public function is total and has no `requires`.
+// Tables: cutting words and names bytes into sections, judging nodes and lists, labels. Every public function is total and has no `requires`.
 pub mod refusal; // refusal.rt: why a call is refused
 pub mod logic; // logic.rt: tests joined
 pub mod sections; // sections.rt: sections 1 to 6 of the words

@@ -37,7 +37,7 @@ pub enum Refusal {
 }
 
 impl Refusal {
-    // Document 01's number of the refusal.
+    // The refusal's number (docs/FORMAT.md, "Refusals").
     pub fn number(self) -> u64
         ensures { λ r. ⌜ r ≡ refusalOf self .reason ⌝ }
     {

@@ -1,4 +1,4 @@
--- Printing into a lent buffer from a place on, and the result's words as the program prints them (document 01, Noon itself).
+-- Printing into a lent buffer from a place on, and the result's words as the program prints them (docs/FORMAT.md, "The program's text").
 --     Page, laid         a buffer with a place in it, and bytes printed there one after the other
 --     sectionsIn         the sections that words hold, each with its count first
 --     acceptedText       what is printed of the words of a result (proofs/Printing: it is what the rules print)
@@ -54,6 +54,6 @@ unfoldable pub sectionsIn : List ℕ → List ℕ → List (List ℕ)
 sectionsIn [] words = []
 sectionsIn (width ∷ widths) words = take (sectionSize width words) words ∷ sectionsIn widths (drop (sectionSize width words) words)
 
--- "It prints `accepted` and a line per result section"
+-- "It prints `accepted` and one line for each of the nine sections of the result, its count first"
 abbrev pub acceptedText : List ℕ → List ℕ
 acceptedText words = acceptedWord ++ (10 ∷ lines (sectionsIn resultWidths words))

@@ -1,7 +1,7 @@
 -- The reader's state and its answer, as the rules have them (rules, Reader).
 --     readerOf           a state and the numbers kept beside it, as the rules' Reader
 --     fedIn, endedIn     the array after a chunk, and at the end of the bytes
---     answerOf           what is read at the end: the mode and the numbers after it, or a refusal of document 01
+--     answerOf           what is read at the end: the mode and the numbers after it, or a refusal
 -- Assumes nothing.
 use Prim.Native.Nat.{ℕ, _-_, _<_, _≤_}
 use mathlib.Core.List.{List, [], _∷_}

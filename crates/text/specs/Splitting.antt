@@ -1,4 +1,4 @@
--- The numbers after the mode, as the library call wants them: where sections 1 to 6 end, and the names as bytes (document 01, Noon itself).
+-- The numbers after the mode, as the library call wants them: where sections 1 to 6 end, and the names as bytes (docs/FORMAT.md, "The program's text").
 --     endOf, restOf      where the sections end, or the refusal; the numbers after the sections, or the refusal
 --     namesOf, bytesIn   the names bytes, or the refusal; the same as the rules have it
 -- Assumes nothing.
