@@ -4,11 +4,12 @@
     tests/calls.py list                 the kept list, crates/call_limits/data/calls.list
     tests/calls.py compare PROGRAM      the calls that fit the text form, answered by `PROGRAM answer` (oracle/README.md)
 
-Nothing here folds a table: every answer is written beside its case.
+Nothing here folds a table: every answer is written beside its case. A case named wrong_answer_.. is one of the others with an
+answer that it does not have, and must be counted wrong.
 """
 from limits import (ADD, AND, BAD, BIT, BYTE, CONST, DIV, EQ, EXT, INPUT, ITE, MEMORY, MOST, MUL, NEXT, NOT, OR, READ,
                     REM, ROOM, SLL, STATE, SUB, ULT, WORD, WRITE, Group, answers, flat, in_text_form, main, names_of,
-                    need, node, sections, size, text)
+                    need, node, sections, size, text, wrong)
 
 IMPL, WITH_SOLVER, WITH_INPUT = range(3)
 ENTRIES = {'impl': IMPL, 'with_solver': WITH_SOLVER, 'with_input': WITH_INPUT}
@@ -467,15 +468,70 @@ whole('minimise_asks_nothing_about_bytes_or_not', sections(BYTE_ITE + [node(ULT,
            questions=[(ALWAYS_TRUE, 8, 0, 0), (ALWAYS_FALSE, 8, 0, 0), (SATISFIABLE, 8, 0, 0), (SATISFIABLE, 7, 0, 0)]),
       A_NAME, MINIMISE)
 
+# --- wrong answers, each in one small way: who overlooks it counts too few. The list cannot say of scratch, or of the words after the
+# result, that they are not 0.
+
+DONE = (0, 0, 0)
+ALL_WORDS = flat(ALL_RESULT)
+EMPTY_WORDS = left([])
+
+
+def but(words, place, more):
+    """The words with another one at that place; -1 is the last."""
+    changed = list(words)
+    changed[place] += more
+    return changed
+
+
+def told(answer):
+    """The refusal and the words of the result that the list has for an answer; a wrong one is both."""
+    if isinstance(answer, list):
+        return DONE, answer
+    return answer if len(answer) == 2 else (answer, [])
+
+
+def plain(answer):
+    refusal, words = told(answer)
+    return refusal, flat(words)
+
+
+def wrong_call(what, name, refusal, words=()):
+    return wrong(calls, what, name, (refusal, words), plain)
+
+
+wrong_calls = [
+    wrong_call('first_word', 'every_section_room', DONE, but(ALL_WORDS, 0, 1)),
+    wrong_call('middle_word', 'every_section_room', DONE, but(ALL_WORDS, len(ALL_WORDS) // 2, 1)),
+    wrong_call('last_word', 'every_section_room', DONE, but(ALL_WORDS, -1, 1)),
+    wrong_call('highest_bit_of_a_word', 'every_section_room', DONE, but(ALL_WORDS, -2, 2**63)),
+    wrong_call('last_word_of_an_empty_result', 'empty_room_22_by_with_solver', DONE, but(EMPTY_WORDS, -1, 1)),
+    # a word that is 0 stands after the result as well, so that the count alone is wrong
+    wrong_call('one_word_missing', 'every_section_room', DONE, ALL_WORDS[:-1]),
+    wrong_call('one_word_more', 'every_section_room', DONE, ALL_WORDS + [0]),
+    wrong_call('one_word_more_is_not_0', 'every_section_more_room', DONE, ALL_WORDS + [1]),
+    wrong_call('more_words_than_room', 'empty_room_22_by_impl', DONE, EMPTY_WORDS + [0] * 5),
+    wrong_call('all_words_missing', 'empty_room_22_by_impl', DONE),
+    wrong_call('accepted_with_a_number', 'every_section_room', (1, 0, 0), ALL_WORDS),
+    wrong_call('accepted_with_a_section', 'every_section_room', (0, 1, 0), ALL_WORDS),
+    wrong_call('accepted_with_a_position', 'every_section_room', (0, 0, 1), ALL_WORDS),
+    wrong_call('accepted_as_refused', 'empty_room_22_by_impl', (12, 8, 0)),
+    wrong_call('number_one_more', 'section_3_third_is_always_true', (14, 3, 2)),
+    wrong_call('section_one_more', 'section_3_third_is_always_true', (13, 4, 2)),
+    wrong_call('position_one_less', 'section_3_third_is_always_true', (13, 3, 1)),
+    wrong_call('refused_with_a_word', 'section_3_third_is_always_true', (13, 3, 2), [0]),
+    wrong_call('refused_as_accepted', 'empty_result_21_by_impl', DONE),
+    wrong_call('refused_number_alone_as_accepted', 'mode_8_by_impl', DONE),
+    wrong_call('refused_as_accepted_with_words', 'empty_result_21_by_impl', DONE, EMPTY_WORDS),
+]
+
 
 # --- the list, and the comparison
 
 def lines():
-    for name, entry, mode, result, scratch, words, names, answer in calls:
-        refusal = answer if isinstance(answer, tuple) else (0, 0, 0)
-        told = [] if isinstance(answer, tuple) else answer
+    for name, entry, mode, result, scratch, words, names, answer in wrong_calls + calls:
+        refusal, kept = told(answer)
         yield '%s %d %d %d %d | %s | %s | %d %d %d | %s' % (
-            (name, entry, mode, result, scratch, text(words), text(names)) + refusal + (text(told),))
+            (name, entry, mode, result, scratch, text(words), text(names)) + refusal + (text(kept),))
 
 
 def brought(entry, mode, words):
@@ -499,11 +555,11 @@ def compare(program):
     asked = []
     for name, entry, mode, result, scratch, words, names, answer in calls:
         call = brought(entry, mode, flat(words))
-        refusal = answer if isinstance(answer, tuple) else (0, 0, 0)
+        refusal, kept = told(answer)
         numbers = call and in_text_form(call[0], result, scratch, call[1], names, refusal)
         if numbers is not None:
-            told = 'refused %d %d %d' % answer if isinstance(answer, tuple) else 'accepted ' + ' '.join(map(str, flat(answer)))
-            asked.append((name, numbers, told))
+            line = 'accepted ' + ' '.join(map(str, flat(kept))) if refusal == DONE else 'refused %d %d %d' % refusal
+            asked.append((name, numbers, line))
     differing = 0
     for (name, _, answer), line in zip(asked, answers(program, [numbers for _, numbers, _ in asked])):
         if line.strip() != answer:

@@ -4,7 +4,8 @@
     tests/limits.py list                the kept list, data/limits.list
     tests/limits.py compare PROGRAM     the calls that fit the text form, answered by `PROGRAM answer` (oracle/README.md)
 
-Nothing here judges a table: every answer is written beside its case.
+Nothing here judges a table: every answer is written beside its case. A case named wrong_answer_.. is one of the others with an
+answer that it does not have, and must be counted wrong.
 """
 import subprocess
 import sys
@@ -678,13 +679,52 @@ label('label_of_a_node_with_other_faults', 0, sections([node(23, 18, MOST, MOST,
 label('label_of_a_const_with_a_name', 0, sections([node(CONST, WORD, 5, name=1)]), THREE_NAMES, OTHER, [97, 98])
 label('label_name_after_a_name_of_64', 1, LABELLED, [2, 0, 64, Group(64, 98), 1, 99], OTHER, [99])
 
+# --- wrong answers, each in one small way: who overlooks it counts too few
+
+
+def wrong(cases, what, name, answer, plain=flat):
+    """The case of that name once more, with an answer that it does not have."""
+    case = next(case for case in cases if case[0] == name)
+    assert plain(answer) != plain(case[-1]), name
+    return ('wrong_answer_' + what, *case[1:-1], answer)
+
+
+wrongly_judged = [
+    wrong(judged, 'number_one_more', 'nodes_4096_last_unknown_kind', (4, 1, 4095)),
+    wrong(judged, 'number_one_less', 'nodes_4096_last_wrong_sort', (4, 1, 4095)),
+    wrong(judged, 'section_one_more', 'section_3_before_section_4', (6, 4, 0)),
+    wrong(judged, 'section_one_less', 'sequential_bads_1024_last_no_bad', (6, 3, 1023)),
+    wrong(judged, 'position_one_more', 'two_nexts_of_one_state', (7, 2, 2)),
+    wrong(judged, 'position_one_less', 'nodes_4096_last_on_itself', (4, 1, 4094)),
+    wrong(judged, 'position_2^32_more', 'third_sequential_is_const', (6, 2, 2**32 + 2)),
+    wrong(judged, 'refused_as_accepted', 'one_word_left_over', ACCEPTED),
+    wrong(judged, 'refused_number_alone_as_accepted', 'mode_8', ACCEPTED),
+    wrong(judged, 'accepted_with_a_number', 'nodes_4096', (2, 0, 0)),
+    wrong(judged, 'accepted_with_a_section', 'mode_7', (0, 1, 0)),
+    wrong(judged, 'accepted_with_a_position', 'one_next', (0, 0, 1)),
+    wrong(judged, 'accepted_as_refused', 'empty_room_22', (12, 8, 0)),
+]
+wrongly_labelled = [
+    wrong(labelled, 'label_first_byte', 'label_last_name', [101, 100, 100]),
+    wrong(labelled, 'label_middle_byte', 'label_last_name', [100, 101, 100]),
+    wrong(labelled, 'label_last_byte', 'label_last_name', [100, 100, 101]),
+    wrong(labelled, 'label_last_byte_256_more', 'label_first_name', [97, 98 + 256]),
+    wrong(labelled, 'label_one_byte_missing', 'label_first_name', [97]),
+    wrong(labelled, 'label_one_byte_more', 'label_first_name', [97, 98, 0]),
+    wrong(labelled, 'label_of_64_last_byte', 'label_name_64_bytes', [Group(63, 98), 99]),
+    wrong(labelled, 'label_all_bytes_missing', 'label_name_64_bytes', []),
+    wrong(labelled, 'label_empty_as_one_byte', 'label_empty_name', [0]),
+    wrong(labelled, 'label_as_the_substitute', 'label_first_name', OTHER),
+    wrong(labelled, 'substitute_as_a_label', 'label_name_past_the_last', [97, 98]),
+]
+
 
 # --- the list, and the comparison
 
 def lines():
-    for name, mode, result, scratch, words, names, answer in judged:
+    for name, mode, result, scratch, words, names, answer in judged + wrongly_judged:
         yield '%s %d %d %d | %s | %s | %d %d %d' % ((name, mode, result, scratch, text(words), text(names)) + answer)
-    for name, place, words, names, substitute, answer in labelled:
+    for name, place, words, names, substitute, answer in labelled + wrongly_labelled:
         yield '%s %d | %s | %s | %s | %s' % (name, place, text(words), text(names), text(substitute), text(answer))
 
 

@@ -1,5 +1,6 @@
 // Prints the operator cases: kind, left, right, answer; Not has its sort's code on the right, Ext 0. Each answer is what the published fold
-// makes of a model with that one operator, and is compared with the operator's own function.
+// makes of a model with that one operator, and is compared with the operator's own function. Before them stand two cases of each operator
+// with a wrong answer, whose lowest or highest bit is another one.
 
 mod random;
 
@@ -50,6 +51,18 @@ const SEED: u64 = 1;
 const RANDOM_PAIRS: u64 = 250;
 
 fn main() {
+    for kind in BINARY.into_iter().chain([NOT, EXT]) {
+        let left = u64::MAX - 6;
+        let right = match kind {
+            NOT => 64,
+            EXT => 0,
+            _ => 3,
+        };
+        let answer = folded(kind, left, right);
+        print_case(kind, left, right, answer ^ 1);
+        print_case(kind, left, right, answer ^ 1 << 63);
+    }
+
     let mut cases = Cases(BTreeSet::new());
     for kind in BINARY {
         for left in LIMITS {
@@ -130,10 +143,14 @@ impl Cases {
         if self.0.insert((kind, left, right)) {
             let folded = folded(kind, left, right);
             assert_eq!(folded, direct(kind, left, right), "kind {kind} of {left} and {right}");
-            let shown = if kind == NOT { code(right) } else { right };
-            println!("{kind} {left} {shown} {folded}");
+            print_case(kind, left, right, folded);
         }
     }
+}
+
+fn print_case(kind: u64, left: u64, right: u64, answer: u64) {
+    let shown = if kind == NOT { code(right) } else { right };
+    println!("{kind} {left} {shown} {answer}");
 }
 
 // The operator's own function, or Rust's operator where the published Rust has none.

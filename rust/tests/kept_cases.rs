@@ -1,12 +1,14 @@
 // The kept cases, folded by the library: each text's call must print what the list has for it.
 // The list is crates/replay/data/cases.list, or the file that GEMTWEED_CASES names. For each case it has a line with two lengths, then that
-// many bytes of input text and of output text, and a line end.
+// many bytes of input text and of output text, and a line end. The first ones have a wrong output, which the library must not print.
 
 mod support;
 
 use gemtweed::{Node, NodeId, Reply, Table};
 use std::path::PathBuf;
 use support::{Call, NoCall};
+
+const WRONG: usize = 20;
 
 const SECTION_0: [&str; 2] = ["refused 1 0 ", "refused 2 0 "];
 
@@ -33,11 +35,27 @@ fn cases(mut rest: &[u8]) -> Vec<(&[u8], &str)> {
     cases
 }
 
+// Whether a text's call prints this. The library has no part in a text that makes no call.
+fn prints(input: &[u8], output: &str) -> bool {
+    match support::read(input) {
+        Ok(call) => support::fold(&call) == output,
+        Err(NoCall::Text) => SECTION_0.iter().any(|start| output.starts_with(start)),
+        Err(NoCall::NoByte) => true,
+    }
+}
+
+#[test]
+fn every_wrong_case() {
+    for (input, output) in &cases(&list())[..WRONG] {
+        assert!(!prints(input, output), "printed, and wrong: {output}");
+    }
+}
+
 #[test]
 fn every_kept_case() {
     let list = list();
     let (mut folded, mut accepted, mut texts, mut no_bytes) = (0, 0, 0, 0);
-    for (input, output) in cases(&list) {
+    for (input, output) in cases(&list).split_off(WRONG) {
         match support::read(input) {
             Ok(call) => {
                 assert_eq!(support::fold(&call), output, "{}", String::from_utf8_lossy(input));
