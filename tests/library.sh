@@ -25,3 +25,4 @@ fi
 
 cd rust
 cargo test --offline
+echo "library: as expected from C and from Rust"

@@ -1,0 +1,131 @@
+#!/bin/sh
+# The gate's own logic, tried in a tree with a copy of .ci/run where rt, cc, cargo and every part are small scripts that stand in.
+#     tests/gate.sh        a line for each thing tried; the exit status is 0 if none is wrong
+# shellcheck disable=SC2016
+set -u
+cd "$(dirname "$0")/.." || exit 1
+work=$(mktemp -d) || exit 1
+trap 'rm -rf "$work"' EXIT
+tree=$work/tree
+bin=$work/bin
+tried=0 wrong=0
+
+script() { # FILE TEXT
+    rm -f "$1"
+    printf '#!/bin/sh\n%s\n' "$2" >"$1" && chmod +x "$1"
+}
+
+# What a part does, once it has noted that it was run.
+does() { # PART TEXT
+    case $1 in
+    fmt | ci) echo "$2" >"$work/rt.$1" ;;
+    *) script "$tree/tests/$1.sh" "echo $1 >>'$work/ran'; $2" ;;
+    esac
+}
+
+# A tree where every part passes. No other programs are on the PATH than those in bin.
+fresh() {
+    rm -rf "$tree" "$bin" "$work/tmp" "$work/ran"
+    mkdir -p "$tree/.ci" "$tree/tests" "$bin" "$work/tmp"
+    cp .ci/run "$tree/.ci/run"
+    for program in cat dirname env grep mkdir mktemp rm tail tee; do ln -s "$(command -v "$program")" "$bin/$program"; done
+    for program in cc cargo; do script "$bin/$program" 'exit 1'; done
+    script "$bin/rt" 'echo $1 >>'"'$work/ran'; . '$work'/rt."'$1'
+    for each in gate fmt library wrapper; do does $each "echo $each as expected"; done
+    does edits '[ "$FROM_NOTHING" = 1 ] && echo edits as expected'
+    does ci 'echo a crate; echo 3 passed, 0 failed'
+}
+
+run() { # [NAME=VALUE]...
+    env -i PATH="$bin" TMPDIR="$work/tmp" "$@" "$tree/.ci/run" >"$work/told" 2>&1
+    status=$?
+    ran=$(sort "$work/ran" 2>/dev/null | paste -sd' ' -)
+    last=$(tail -n 1 "$work/told")
+}
+
+# A line about what was tried, and all that the gate said if it was wrong; then a tree as before.
+report() { # WHAT RIGHT
+    tried=$((tried + 1))
+    if [ "$2" = yes ]; then
+        echo "gate: $1: exit status $status"
+    else
+        wrong=$((wrong + 1))
+        echo "gate: $1: WRONG: exit status $status; it ran $ran, and said"
+        cat "$work/told"
+    fi
+    fresh
+}
+
+# The gate must pass, having run the parts that are named.
+passes() { # WHAT PARTS [NAME=VALUE]...
+    what=$1 parts=$2 right=no
+    shift 2
+    run "$@"
+    [ "$status" -ne 0 ] || [ "$last" != '3 passed, 0 failed' ] || [ "$ran" != "$parts" ] || right=yes
+    report "$what" "$right"
+}
+
+# The gate must fail, and its last line say why with these words; or it is killed itself.
+fails() { # WHAT WORDS [NAME=VALUE]...
+    what=$1 words=$2 right=no
+    shift 2
+    run "$@"
+    case $status/$last in 0/*) ;; 137/* | *"/.ci/run: "*"$words"*) right=yes ;; esac
+    report "$what" "$right"
+}
+
+every='ci edits fmt gate library wrapper'
+fresh
+passes 'all parts pass' "$every"
+for part in $every; do
+    does "$part" 'echo 3 passed, 0 failed; exit 1'
+    fails "$part fails" "$part (status '1')"
+    does "$part" 'echo 3 passed, 0 failed; kill -9 $$'
+    fails "$part is killed" "$part (status '137')"
+    does "$part" 'echo 3 passed, 0 failed; kill -9 $PPID'
+    fails "who runs $part is killed" "$part (status '')"
+done
+for part in edits gate library wrapper; do
+    rm "$tree/tests/$part.sh"
+    fails "there is no tests/$part.sh" "$part (status '127')"
+done
+
+does edits 'mkdir "$1.status"'
+fails 'the status of edits cannot be written' "edits (status '')"
+for other in '' '0 0' '00' zero; do
+    # rt ci puts another status for that of edits, once that is there
+    does ci "until [ -s \"\$(echo '$work'/tmp/*/edits.status)\" ]; do :; done; printf '$other' >\"\$(echo '$work'/tmp/*/edits.status)\"
+        echo 3 passed, 0 failed"
+    fails "the status of edits is '$other'" "edits (status '$other')"
+done
+script "$bin/tee" 'exec cat'
+fails 'the log of rt ci cannot be written' "the last line of rt ci is ''"
+
+for line in '0 passed, 0 failed' '3 passed, 1 failed' '3 passed, 10 failed' '3 failed, 0 passed' 'passed, 0 failed' ' passed, 0 failed' \
+    '-3 passed, 0 failed' '3.0 passed, 0 failed' '3 passed, 0 failed, 1 left' '3' ''; do
+    does ci "echo '$line'"
+    fails "rt ci ends with '$line'" "the last line of rt ci is '$line'"
+done
+does ci :
+fails 'rt ci says nothing' "the last line of rt ci is ''"
+does ci 'echo 3 passed, 0 failed; echo more'
+fails 'rt ci says more after its last line' "the last line of rt ci is 'more'"
+
+for tool in cc cargo; do
+    rm "$bin/$tool"
+    fails "no $tool" "'$tool'"
+    rm "$bin/$tool"
+    fails "no $tool, and the skip is not asked for" "'$tool'" GEMTWEED_SKIP_LIBRARY=0
+    rm "$bin/$tool"
+    passes "no $tool, and the skip is asked for" 'ci edits fmt gate wrapper' GEMTWEED_SKIP_LIBRARY=1
+done
+rm "$bin/rt"
+fails 'no rt' "'rt'"
+rm "$bin/rt"
+fails 'no rt, and the skip is asked for' "'rt'" GEMTWEED_SKIP_LIBRARY=1
+fails 'the temporary folder is no folder' 'no folder' TMPDIR="$bin/rt"
+rm "$bin/mktemp"
+fails 'no mktemp' 'no folder'
+
+echo "gate: $tried tried, $wrong wrong"
+[ "$wrong" -eq 0 ]
