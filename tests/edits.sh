@@ -1,10 +1,11 @@
 #!/bin/sh
-# Wrong edits of the two large crates, each of which the prover must refuse at the places that the edit names. A must-fail edit
-# of rt checks its crate from nothing; here a crate is proved once, and each edit is checked over its incremental folder.
+# Wrong edits of large crates, those with a folder edits/, each of which the prover must refuse at the places that the edit names. A must-fail
+# edit of rt checks its crate from nothing; here a crate is proved once, and each edit is checked over its incremental folder.
 #     tests/edits.sh [FOLDER]           works in FOLDER, which is kept; a temporary one unless given
-# An edit, crates/CRATE/edits/NAME.edit, has the form of a must-fail edit, and for each need that it leaves without a proof a line
+# An edit, crates/CRATE/edits/NAME.edit, has the form of a must-fail edit, and for each place that it leaves without a proof a line
 #     refused: fn CRATE::MODULE::FUNCTION at NEED
-# where the need stands without its number: 'returns' is what the function ensures, at any of its returns.
+#     refused: proofs/FILE.antt at NAME
+# where the need of a function stands without its number ('returns' is what the function ensures, at any of its returns), and NAME is a law's.
 set -u
 LC_ALL=C
 export LC_ALL
@@ -86,16 +87,17 @@ apply() { # CRATE-FOLDER EDIT
     [ "$pairs" -gt 0 ] || echo "it has no 'old:' and 'new:' pair"
 }
 
-# The needs without a proof in what the prover said. An error that only follows from another one says 'was not admitted'.
+# The places without a proof in what the prover said. An error that only follows from another one says 'was not admitted'.
 places() { # CRATE LOG
     awk -v crate="$1" '
         function snake(s) {
             while (match(s, /[a-z0-9][A-Z]/)) s = substr(s, 1, RSTART) "_" substr(s, RSTART + 1, 1) substr(s, RSTART + 2)
             return tolower(s)
         }
+        function of_function(file) { return file ~ /^proofs\/.*\/Proof(\/[A-Za-z0-9]*)?\.antt$/ }
         function place(file,    n, part, i, name) {
+            if (!of_function(file)) return file
             n = split(file, part, "/")
-            if (file !~ /^proofs\/.*\/Proof(\/[A-Za-z0-9]*)?\.antt$/) return file
             name = crate
             for (i = 2; i < n && part[i] != "Proof" && part[i] !~ /^\+/; i++) name = name "::" part[i]
             if (part[i] ~ /^\+/) { sub(/\.antt$/, "", part[n]); name = name "::" snake(part[n]) }
@@ -110,7 +112,7 @@ places() { # CRATE LOG
             sub(/.*\/crates\/[^\/]*\//, "", half[1])
             sub(/:[0-9]+:[0-9]+$/, "", half[1])
             split(half[2], word, "`")
-            print place(half[1]) " at " kind(word[2])
+            print place(half[1]) " at " (of_function(half[1]) ? kind(word[2]) : word[2])
         }
         /^fn [^ ]*: no proof: / && / does not close / {
             sub(/:$/, "", $2)
@@ -150,17 +152,22 @@ try() { # FOLDER CRATE EDIT
     echo "edit $label: refused at $(echo "$found" | sed 's/^fn //; s/ at /: /' | on_one_line), $took s"
 }
 
-# The edits of a crate whose place is FIRST, FIRST + STEP and so on; what is said of each is kept in a file of its own.
-try_some() { # FOLDER CRATE FIRST STEP
-    place=0
-    for edit in "crates/$2/edits"/*.edit; do
-        if [ "$place" -ge "$3" ] && [ $(((place - $3) % $4)) -eq 0 ]; then
-            told=$work/told/$2/$(basename "$edit" .edit)
-            try "$1" "$2" "$edit" >"$told" && mv "$told" "$told.refused"
-        fi
-        place=$((place + 1))
+# Tries the edits of the crates that are proved as they stand, but for those that the other folder has taken. What is said of each is kept.
+try_edits() { # FOLDER CRATE...
+    folder=$1
+    shift
+    for crate in "$@"; do
+        [ -f "$work/seed/$crate.time" ] || continue
+        [ -d "$folder/target/inc/$crate" ] || cp -Rp "$work/seed/$crate" "$folder/target/inc/$crate"
+        for edit in "crates/$crate/edits"/*.edit; do
+            told=$work/told/$crate/$(basename "$edit" .edit)
+            mkdir "$told.taken" 2>/dev/null || continue
+            try "$folder" "$crate" "$edit" >"$told" && mv "$told" "$told.refused"
+        done
     done
 }
+
+give_up() { echo "edits: $*"; exit 1; }
 
 if [ $# -gt 0 ]; then
     mkdir -p "$1" && work=$(cd "$1" && pwd -P) || exit 1
@@ -169,28 +176,49 @@ else
     trap 'rm -rf "$work"' EXIT
     trap 'exit 1' HUP INT TERM
 fi
-rm -rf "$work/told"
-mkdir -p "$work/told/tables" "$work/told/optimize"
-# The libraries below optimize are proved once. Where they stand in target/ already they are taken from there, unless FROM_NOTHING is set.
-if [ -n "${FROM_NOTHING:-}" ]; then prepare "$work/one"; else prepare "$work/one" .; fi &&
-    (cd "$work/one" && rt check tables) >"$work/tables.log" 2>&1 && prepare "$work/two" "$work/one" ||
-    { echo "edits: the libraries below are not proved, or cannot be copied to $work"; tail -n 5 "$work/tables.log"; exit 1; }
+rm -rf "$work/told" "$work/seed"
 
-# The edits of tables are tried while optimize is proved, and then those of optimize, two at a time.
-(seed "$work/two" tables && try_some "$work/two" tables 0 1) &
-seed "$work/one" optimize
-seeded=$?
-wait
-if [ "$seeded" -eq 0 ]; then
-    rm -rf "$work/two/target/inc/optimize"
-    cp -Rp "$work/seed/optimize" "$work/two/target/inc/optimize"
-    try_some "$work/two" optimize 1 2 &
-    try_some "$work/one" optimize 0 2
-    wait
+# The crates with edits, each after what it is built on, and all that they are built on.
+crates='' below=''
+for crate in $(sed -n 's/^\([a-z0-9_]*\):.*/\1/p' crates.txt); do
+    [ -d "crates/$crate/edits" ] || continue
+    mkdir -p "$work/told/$crate" || exit 1
+    crates="$crates $crate"
+    for name in $(sed -n "s/^$crate://p" crates.txt); do
+        case " $below " in *" $name "*) ;; *) [ ! -d "crates/$name" ] || below="$below $name" ;; esac
+    done
+done
+last=${crates##* }
+others=${crates% *}
+[ -n "$last" ] || give_up "no crate has edits"
+for folder in crates/*/edits; do
+    crate=${folder#crates/}
+    [ -d "$work/told/${crate%/edits}" ] || give_up "$folder belongs to no crate of crates.txt"
+done
+
+# The libraries below are proved once. Where they stand in target/ already they are taken from there, unless FROM_NOTHING is set.
+if [ -n "${FROM_NOTHING:-}" ]; then prepare "$work/one"; else prepare "$work/one" .; fi || give_up "$work cannot be written"
+if [ -n "$below" ]; then
+    # shellcheck disable=SC2086
+    (cd "$work/one" && rt check $below) >"$work/below.log" 2>&1 || { tail -n 5 "$work/below.log"; give_up "a library below is not proved"; }
 fi
+prepare "$work/two" "$work/one" || give_up "$work cannot be written"
+
+# The last crate is proved while the others are and their edits are tried. Then its own edits are tried, two at a time.
+rm -rf "$work/two/target/inc/$last"
+for crate in $others; do rm -rf "$work/one/target/inc/$crate"; done
+# shellcheck disable=SC2086
+(for crate in $others; do seed "$work/two" "$crate"; done; try_edits "$work/two" $others) &
+seed "$work/one" "$last"
+# shellcheck disable=SC2086
+try_edits "$work/one" $others
+wait
+try_edits "$work/two" "$last" &
+try_edits "$work/one" "$last"
+wait
 
 refused=0 failed=0
-for crate in tables optimize; do
+for crate in $crates; do
     for edit in "crates/$crate/edits"/*.edit; do
         told=$work/told/$crate/$(basename "$edit" .edit)
         if [ -f "$told.refused" ]; then
