@@ -5,6 +5,7 @@ use crate::counters::refuse;
 use crate::counters::took_one;
 use crate::fold::Folded;
 use crate::settle::settle;
+use btor::node_type::NodeType;
 use tables::node::fits_sort;
 use tables::refusal::Refusal;
 ghost use Prim.Native.Nat.{ℕ};
@@ -53,7 +54,7 @@ pub(crate) fn take_input(
         return settle(given, result, scratch, counters, node, Folded::Stays);
     }
     let sort = word(given, node, 1);
-    if sort == 3 {
+    if sort == NodeType::MEMORY {
         refuse(Refusal::MemoryInput(node), counters);
         return node;
     }

@@ -1,5 +1,6 @@
 // The two lent buffers before and after the walk: setting up, writing the result's sections, clearing.
 use crate::walk::Walk;
+use btor::node_type::NodeType;
 ghost use mathlib.Core.Path.{_≡_};
 ghost use mathlib.Core.List.{List, [], _∷_, _++_, flatten};
 ghost use Prim.Native.Nat.{ℕ, _+_, _-_, _*_, _<_, _≤_};
@@ -65,9 +66,9 @@ pub(crate) fn set_up(given: &[u64], result: &mut [u64], scratch: &mut [u64])
     let n = given[0] as usize;
     copy_words(given, 0, 1 + 6 * n, result, 0);
     let at = 2 + 6 * n;
-    result[at] = 1;
+    result[at] = NodeType::BIT;
     result[at + 1] = 0;
-    result[at + 2] = 1;
+    result[at + 2] = NodeType::BIT;
     result[at + 3] = 1;
     clear(&mut scratch[0..n]);
 }

@@ -21,6 +21,7 @@ use crate::smt_solver::is_stays;
 use crate::solve::solve_boolean_binary;
 use crate::solve::solve_ite_bit;
 use crate::solve::solve_ite_word;
+use btor::node_type::NodeType;
 use tables::node::NodeKind;
 ghost use Prim.Native.Nat.{ℕ, _+_, _*_, _<_, _≤_};
 ghost use mathlib.Core.Path.{_≡_};
@@ -273,7 +274,7 @@ pub(crate) fn after_ite(
         return settle(given, result, scratch, counters, node, Folded::Stays);
     }
     let sort = word(given, node, 1);
-    if sort == 1 {
+    if sort == NodeType::BIT {
         return solve_ite_bit(
             given,
             replies_in(given, call),
@@ -284,7 +285,7 @@ pub(crate) fn after_ite(
             x,
         );
     }
-    if sort == 2 {
+    if sort == NodeType::WORD {
         return solve_ite_word(
             given,
             replies_in(given, call),

@@ -2,6 +2,7 @@
 use crate::logic::all;
 use crate::nodes::Judged;
 use crate::refusal::Refusal;
+use btor::node_type::NodeType;
 ghost use mathlib.Core.Path.{_≡_};
 ghost use mathlib.Core.Bool.{_&&_, not};
 ghost use mathlib.Core.List.{[], _∷_};
@@ -57,5 +58,5 @@ pub(crate) fn serves(words: &[u64], number: u64) -> bool
 pub(crate) fn same_numbers(left: u64, right: u64) -> bool
     ensures { λ r. ⌜ r ≡ (eqb left right && not (eqb left 3)) ⌝ }
 {
-    all(left == right, left != 3)
+    all(left == right, left != NodeType::MEMORY)
 }

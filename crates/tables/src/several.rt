@@ -9,6 +9,7 @@ use crate::logic::all;
 use crate::node::Row;
 use crate::node::known_sort;
 use crate::nodes::Judged;
+use btor::node_type::NodeType;
 ghost use mathlib.Core.Path.{_≡_};
 ghost use mathlib.Core.Bool.{_&&_};
 ghost use mathlib.Core.List.{[], _∷_};
@@ -54,7 +55,10 @@ pub(crate) fn judge_read(words: &[u64], row: Row, node: usize) -> Judged
     }
     let first = sort_at(words, row.a);
     let second = sort_at(words, row.b);
-    let sorted = all(row.sort == 2, all(first == 3, second == 2));
+    let sorted = all(
+        row.sort == NodeType::WORD,
+        all(first == NodeType::MEMORY, second == NodeType::WORD),
+    );
     told(node, true, true, all(two_serve(words, row), sorted))
 }
 
@@ -71,7 +75,10 @@ pub(crate) fn judge_word(words: &[u64], row: Row, node: usize) -> Judged
     }
     let first = sort_at(words, row.a);
     let second = sort_at(words, row.b);
-    let sorted = all(row.sort == 2, all(first == 2, second == 2));
+    let sorted = all(
+        row.sort == NodeType::WORD,
+        all(first == NodeType::WORD, second == NodeType::WORD),
+    );
     told(node, true, true, all(two_serve(words, row), sorted))
 }
 
@@ -88,7 +95,7 @@ pub(crate) fn judge_comparison(words: &[u64], row: Row, node: usize) -> Judged
     }
     let first = sort_at(words, row.a);
     let second = sort_at(words, row.b);
-    let sorted = all(row.sort == 1, same_numbers(first, second));
+    let sorted = all(row.sort == NodeType::BIT, same_numbers(first, second));
     told(node, true, true, all(two_serve(words, row), sorted))
 }
 
@@ -105,7 +112,10 @@ pub(crate) fn judge_logic(words: &[u64], row: Row, node: usize) -> Judged
     }
     let first = sort_at(words, row.a);
     let second = sort_at(words, row.b);
-    let sorted = all(row.sort != 3, all(first == row.sort, second == row.sort));
+    let sorted = all(
+        row.sort != NodeType::MEMORY,
+        all(first == row.sort, second == row.sort),
+    );
     told(node, true, true, all(two_serve(words, row), sorted))
 }
 
@@ -159,8 +169,11 @@ pub(crate) fn judge_write(words: &[u64], row: Row, node: usize) -> Judged
     let first = sort_at(words, row.a);
     let second = sort_at(words, row.b);
     let third = sort_at(words, row.c);
-    let stored = all(second == 2, third == 2);
-    let sorted = all(row.sort == 3, all(first == 3, stored));
+    let stored = all(second == NodeType::WORD, third == NodeType::WORD);
+    let sorted = all(
+        row.sort == NodeType::MEMORY,
+        all(first == NodeType::MEMORY, stored),
+    );
     told(node, true, true, all(three_serve(words, row), sorted))
 }
 
@@ -178,6 +191,6 @@ pub(crate) fn judge_ite(words: &[u64], row: Row, node: usize) -> Judged
     let second = sort_at(words, row.b);
     let third = sort_at(words, row.c);
     let branches = all(second == row.sort, third == row.sort);
-    let sorted = all(first == 1, branches);
+    let sorted = all(first == NodeType::BIT, branches);
     told(node, true, true, all(three_serve(words, row), sorted))
 }

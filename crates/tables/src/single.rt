@@ -9,6 +9,7 @@ use crate::node::Row;
 use crate::node::fits_sort;
 use crate::node::known_sort;
 use crate::nodes::Judged;
+use btor::node_type::NodeType;
 ghost use mathlib.Core.Path.{_≡_};
 ghost use mathlib.Core.List.{List};
 ghost use Prim.Native.Nat.{ℕ, _+_, _*_, _≤_};
@@ -24,7 +25,7 @@ pub(crate) fn judge_const(row: Row, node: usize) -> Judged
 {
     let unused = all(row.b == 0, row.c == 0);
     let formed = all(known_sort(row.sort), all(unused, row.name == 0));
-    let sorted = all(row.sort != 3, fits_sort(row.sort, row.a));
+    let sorted = all(row.sort != NodeType::MEMORY, fits_sort(row.sort, row.a));
     told(node, formed, true, sorted)
 }
 
@@ -77,7 +78,7 @@ pub(crate) fn judge_ext(words: &[u64], row: Row, node: usize) -> Judged
         return told(node, formed, before, true);
     }
     let first = sort_at(words, row.a);
-    let sorted = all(row.sort == 2, same_numbers(first, row.b));
+    let sorted = all(row.sort == NodeType::WORD, same_numbers(first, row.b));
     told(node, true, true, all(serves(words, row.a), sorted))
 }
 
@@ -93,7 +94,7 @@ pub(crate) fn judge_not(words: &[u64], row: Row, node: usize) -> Judged
         return told(node, formed, before, true);
     }
     let first = sort_at(words, row.a);
-    let sorted = all(row.sort != 3, first == row.sort);
+    let sorted = all(row.sort != NodeType::MEMORY, first == row.sort);
     told(node, true, true, all(serves(words, row.a), sorted))
 }
 
@@ -110,6 +111,6 @@ pub(crate) fn judge_bad(words: &[u64], row: Row, names: u64, node: usize) -> Jud
         return told(node, formed, before, true);
     }
     let first = sort_at(words, row.a);
-    let sorted = all(row.sort == 1, first == 1);
+    let sorted = all(row.sort == NodeType::BIT, first == NodeType::BIT);
     told(node, true, true, all(serves(words, row.a), sorted))
 }
