@@ -79,7 +79,9 @@ impl Node {
         match *self {
             Node::Const { sort, number } => [1, sort.code(), number, 0, 0, 0],
             Node::Read { memory, address } => two(2, Sort::Word, memory, address),
-            Node::Write { memory, address, value } => [3, 3, memory.0, address.0, value.0, 0],
+            Node::Write { memory, address, value } => {
+                [3, Sort::Memory.code(), memory.0, address.0, value.0, 0]
+            }
             Node::Add { left, right } => two(4, Sort::Word, left, right),
             Node::Sub { left, right } => two(5, Sort::Word, left, right),
             Node::Mul { left, right } => two(6, Sort::Word, left, right),
@@ -89,7 +91,7 @@ impl Node {
             Node::Sll { left, right } => two(10, Sort::Word, left, right),
             Node::Srl { left, right } => two(11, Sort::Word, left, right),
             Node::Ult { left, right } => two(12, Sort::Bit, left, right),
-            Node::Ext { from, value } => [13, 2, value.0, from.code(), 0, 0],
+            Node::Ext { from, value } => [13, Sort::Word.code(), value.0, from.code(), 0, 0],
             Node::Ite { sort, condition, left, right } => {
                 [14, sort.code(), condition.0, left.0, right.0, 0]
             }
@@ -103,7 +105,7 @@ impl Node {
             Node::State { sort, init: None, name: n } => [19, sort.code(), 0, 0, 0, name(n)],
             Node::Next { sort, state, next } => two(20, sort, state, next),
             Node::Input { sort, name } => [21, sort.code(), 0, 0, 0, name.0],
-            Node::Bad { condition, name: n } => [22, 1, condition.0, 0, 0, name(n)],
+            Node::Bad { condition, name: n } => [22, Sort::Bit.code(), condition.0, 0, 0, name(n)],
         }
     }
 
