@@ -15,11 +15,16 @@ script() { # FILE TEXT
     printf '#!/bin/sh\n%s\n' "$2" >"$1" && chmod +x "$1"
 }
 
+# The script of a part.
+file() { # PART
+    case $1 in quotes) echo "$tree/tests/quotes.py" ;; *) echo "$tree/tests/$1.sh" ;; esac
+}
+
 # What a part does, once it has noted that it was run.
 does() { # PART TEXT
     case $1 in
     fmt | ci) echo "$2" >"$work/rt.$1" ;;
-    *) script "$tree/tests/$1.sh" "echo $1 >>'$work/ran'; $2" ;;
+    *) script "$(file "$1")" "echo $1 >>'$work/ran'; $2" ;;
     esac
 }
 
@@ -29,9 +34,9 @@ fresh() {
     mkdir -p "$tree/.ci" "$tree/tests" "$bin" "$work/tmp"
     cp .ci/run "$tree/.ci/run"
     for program in cat dirname env grep mkdir mktemp rm tail tee; do ln -s "$(command -v "$program")" "$bin/$program"; done
-    for program in cc cargo; do script "$bin/$program" 'exit 1'; done
+    for program in cc cargo python3; do script "$bin/$program" 'exit 1'; done
     script "$bin/rt" 'echo $1 >>'"'$work/ran'; . '$work'/rt."'$1'
-    for each in gate fmt library wrapper; do does $each "echo $each as expected"; done
+    for each in gate fmt quotes library wrapper; do does $each "echo $each as expected"; done
     does edits '[ "$FROM_NOTHING" = 1 ] && echo edits as expected'
     does ci 'echo a crate; echo 3 passed, 0 failed'
 }
@@ -74,7 +79,7 @@ fails() { # WHAT WORDS [NAME=VALUE]...
     report "$what" "$right"
 }
 
-every='ci edits fmt gate library wrapper'
+every='ci edits fmt gate library quotes wrapper'
 fresh
 passes 'all parts pass' "$every"
 for part in $every; do
@@ -85,9 +90,9 @@ for part in $every; do
     does "$part" 'echo 3 passed, 0 failed; kill -9 $PPID'
     fails "who runs $part is killed" "$part (status '')"
 done
-for part in edits gate library wrapper; do
-    rm "$tree/tests/$part.sh"
-    fails "there is no tests/$part.sh" "$part (status '127')"
+for part in edits gate library quotes wrapper; do
+    rm "$(file "$part")"
+    fails "there is no script of $part" "$part (status '127')"
 done
 
 does edits 'mkdir "$1.status"'
@@ -117,8 +122,10 @@ for tool in cc cargo; do
     rm "$bin/$tool"
     fails "no $tool, and the skip is not asked for" "'$tool'" GEMTWEED_SKIP_LIBRARY=0
     rm "$bin/$tool"
-    passes "no $tool, and the skip is asked for" 'ci edits fmt gate wrapper' GEMTWEED_SKIP_LIBRARY=1
+    passes "no $tool, and the skip is asked for" 'ci edits fmt gate quotes wrapper' GEMTWEED_SKIP_LIBRARY=1
 done
+rm "$bin/python3"
+fails 'no python3' "'python3'"
 rm "$bin/rt"
 fails 'no rt' "'rt'"
 rm "$bin/rt"
