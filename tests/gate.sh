@@ -33,7 +33,7 @@ fresh() {
     rm -rf "$tree" "$bin" "$work/tmp" "$work/ran"
     mkdir -p "$tree/.ci" "$tree/tests" "$bin" "$work/tmp"
     cp .ci/run "$tree/.ci/run"
-    for program in cat dirname env grep mkdir mktemp rm tail tee; do ln -s "$(command -v "$program")" "$bin/$program"; done
+    for program in awk cat dirname env grep mkdir mktemp rm tail tee; do ln -s "$(command -v "$program")" "$bin/$program"; done
     for program in cc cargo python3; do script "$bin/$program" 'exit 1'; done
     script "$bin/rt" 'echo $1 >>'"'$work/ran'; . '$work'/rt."'$1'
     for each in gate fmt quotes library wrapper; do does $each "echo $each as expected"; done
