@@ -17,7 +17,7 @@ use Rattle.rules.proofs.Numbered.{accepted-answer}
 use Rattle.tables.specs.Judging.{callWith}
 use Rattle.optimize.specs.declared.walk.Optimized.{Optimized}
 use Rattle.optimize.specs.Entries.{answered}
-use Rattle.optimize.specs.Demand.{Contract, Kept, Demand3OfResult}
+use Rattle.optimize.specs.Demand.{Kept, Demand3OfResult}
 use Rattle.optimize.proofs.Demand.{demand-3-of-result}
 use Rattle.gemtweed.specs.declared.fold.GemtweedAnswer.{GemtweedAnswer}
 use Rattle.gemtweed.specs.Answers.{answerIs}

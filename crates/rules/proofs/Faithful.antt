@@ -14,10 +14,8 @@ use borrow.Author.Tests.{eqb-true, eqb-false, eq-eqb, ne-eqb, ltb-false, le-ltb}
 use Rattle.btor.specs.Operators.{Reading}
 use Rattle.btor.specs.Sorts.{width}
 use Rattle.rules.specs.Lists.{All}
-use Rattle.rules.specs.Refusal.{done}
 use Rattle.rules.specs.Table.{State, Input, Node, nodeAt, is, operandsAs, operands}
-use Rattle.rules.specs.Model.{Model, Mode}
-use Rattle.rules.specs.Legal.{AllLegal, Sequential, WellFormed}
+use Rattle.rules.specs.Legal.{AllLegal, Sequential}
 use Rattle.rules.specs.Walk.{St, Mark, fresh, kept, replaced, Held}
 use Rattle.rules.specs.Value.{Value, number, memory, meaning, valueBy, value, Fits}
 use Rattle.rules.specs.Whole.{trivial}
@@ -25,7 +23,7 @@ use Rattle.rules.specs.Laws.{SortFor}
 use Rattle.rules.specs.Demand.{Assigns, SameInit, Same, Faithful, Unreplaced, worthOf}
 use Rattle.rules.specs.Call.{FaithfulOfCall, SomeAssigns}
 use Rattle.btor.proofs.Agreement.{cases}
-use Rattle.rules.proofs.Base.{cases-cond, all-map, is-kind}
+use Rattle.rules.proofs.Base.{cases-cond, is-kind}
 use Rattle.rules.proofs.Legal.{legal-as, init-operand, state-ok}
 use Rattle.rules.proofs.Values.{given-solves, given-only, meaning-fits}
 use Rattle.rules.proofs.Shape.{MarkStands, Shape, Took, Marked}

@@ -24,7 +24,7 @@ use Rattle.rules.specs.Demand.{Assigns, worthOf, NonePassed, Faithful, U
 use Rattle.rules.specs.Limits.{Limits, house}
 use Rattle.rules.specs.Sections.{rowsWords, encode, cutSection, rowsOf, cutSix, cut}
 use Rattle.rules.specs.Names.{cutNames, countedNames, namesOf, startsWith}
-use Rattle.rules.specs.Call.{Call, Entry, impl, Accepted, judgeMode, judgeRoom, judgeAndFold, judgeCut, outcome, Demand3OfCall, FaithfulOfCall, SomeAssigns}
+use Rattle.rules.specs.Call.{Call, Entry, impl, Accepted, judgeMode, judgeRoom, judgeAndFold, judgeCut, outcome, Demand3OfCall, FaithfulOfCall}
 use Rattle.rules.specs.Worked.{OfAccepted, FaithfulTo, HoldIn, valueIn, Premises, Follows, Replaced, replacedRows, replacedHeld, replacedAsked, replacedCall, ReplacedWorked, severalCall, SeveralWorked}
 use Rattle.btor.proofs.Agreement.{cases}
 use Rattle.rules.proofs.Words.{width-word}
