@@ -152,17 +152,24 @@ try() { # FOLDER CRATE EDIT
     echo "edit $label: refused at $(echo "$found" | sed 's/^fn //; s/ at /: /' | on_one_line), $took s"
 }
 
-# Tries the edits of the crates that are proved as they stand, but for those that the other folder has taken. What is said of each is kept.
-try_edits() { # FOLDER CRATE...
-    folder=$1
-    shift
-    for crate in "$@"; do
+# Both folders go through the same crates and edits; whichever comes to one first has taken it.
+take() { mkdir "$1.taken" 2>/dev/null; }
+
+seeds() { # FOLDER
+    for crate in $crates; do
+        if take "$work/told/$crate"; then seed "$1" "$crate"; else rm -rf "$1/target/inc/$crate"; fi
+    done
+}
+
+# Tries edits of the crates that are proved as they stand. What is said of each is kept.
+try_edits() { # FOLDER
+    for crate in $crates; do
         [ -f "$work/seed/$crate.time" ] || continue
-        [ -d "$folder/target/inc/$crate" ] || cp -Rp "$work/seed/$crate" "$folder/target/inc/$crate"
+        [ -d "$1/target/inc/$crate" ] || cp -Rp "$work/seed/$crate" "$1/target/inc/$crate"
         for edit in "crates/$crate/edits"/*.edit; do
             told=$work/told/$crate/$(basename "$edit" .edit)
-            mkdir "$told.taken" 2>/dev/null || continue
-            try "$folder" "$crate" "$edit" >"$told" && mv "$told" "$told.refused"
+            take "$told" || continue
+            try "$1" "$crate" "$edit" >"$told" && mv "$told" "$told.refused"
         done
     done
 }
@@ -188,9 +195,7 @@ for crate in $(sed -n 's/^\([a-z0-9_]*\):.*/\1/p' crates.txt); do
         case " $below " in *" $name "*) ;; *) [ ! -d "crates/$name" ] || below="$below $name" ;; esac
     done
 done
-last=${crates##* }
-others=${crates% *}
-[ -n "$last" ] || give_up "no crate has edits"
+[ -n "$crates" ] || give_up "no crate has edits"
 for folder in crates/*/edits; do
     crate=${folder#crates/}
     [ -d "$work/told/${crate%/edits}" ] || give_up "$folder belongs to no crate of crates.txt"
@@ -204,18 +209,12 @@ if [ -n "$below" ]; then
 fi
 prepare "$work/two" "$work/one" || give_up "$work cannot be written"
 
-# The last crate is proved while the others are and their edits are tried. Then its own edits are tried, two at a time.
-rm -rf "$work/two/target/inc/$last"
-for crate in $others; do rm -rf "$work/one/target/inc/$crate"; done
-# shellcheck disable=SC2086
-(for crate in $others; do seed "$work/two" "$crate"; done; try_edits "$work/two" $others) &
-seed "$work/one" "$last"
-# shellcheck disable=SC2086
-try_edits "$work/one" $others
-wait
-try_edits "$work/two" "$last" &
-try_edits "$work/one" "$last"
-wait
+# First the crates are proved as they stand, then their edits are tried, two at a time.
+for task in seeds try_edits; do
+    $task "$work/two" &
+    $task "$work/one"
+    wait
+done
 
 refused=0 failed=0
 for crate in $crates; do
