@@ -98,7 +98,7 @@ enum {
     GEMTWEED_REFUSED_OVER_LIMIT,         /* a count or a name's length */
     GEMTWEED_REFUSED_MALFORMED,          /* an unknown kind or sort, a word that must be 0, or a name rule broken */
     GEMTWEED_REFUSED_OPERAND_NOT_BEFORE, /* its node */
-    GEMTWEED_REFUSED_SORTS,              /* a node's sorts do not fit */
+    GEMTWEED_REFUSED_SORTS,              /* a node's sorts do not fit, or its number; or an operand is a Next, a Bad or no State */
     GEMTWEED_REFUSED_ENTRY,              /* past the table, of the wrong kind, or a Next whose state has no init */
     GEMTWEED_REFUSED_SECOND_SEQUENTIAL,  /* for one state */
     GEMTWEED_REFUSED_MEMORY_INPUT,       /* a memory State would take an input */

@@ -21,8 +21,11 @@ diff tests/c/example.out "$folder/printed"
 echo "C: as expected; names: $(cat "$folder/checked")"
 if c++ --version >/dev/null 2>&1; then
     c++ -x c++ -std=c++11 -Wall -Wextra -Wpedantic -Werror -fsyntax-only include/gemtweed.h
+    header="C++ too"
+else
+    header="C++ NOT TRIED, as there is no c++"
 fi
 
 cd rust
 cargo test --offline
-echo "library: as expected from C and from Rust"
+echo "library: as expected from C and from Rust; the header: $header"

@@ -1,7 +1,7 @@
 #!/bin/sh
 # The wrapper ./optimize_model: its words, exit statuses and output over the program as it stands in target/bin, and, with stand-ins for rt and
 # for the program in a temporary folder, links to it, building, and answers that are none. Nothing is proved here. The last line says
-# 'wrapper: N tried, 0 wrong'; where something is wrong, the exit status is 1.
+# 'wrapper: N tried, 0 wrong, M not tried'; where something is wrong, the exit status is 1.
 #     tests/wrapper.sh [WRAPPER]         tries another wrapper than the repository's
 # shellcheck disable=SC2016
 set -u
@@ -552,6 +552,5 @@ try_failing_builds
 try_progress
 [ -z "$(ls -A "$work/tmp")" ] || fault "$(ls -A "$work/tmp")"
 tell "nothing is left among the temporary files"
-[ "$untried" -eq 0 ] || echo "wrapper: $untried not tried"
-echo "wrapper: $tried tried, $wrong wrong"
+echo "wrapper: $tried tried, $wrong wrong, $untried not tried"
 [ "$wrong" -eq 0 ]

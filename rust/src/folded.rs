@@ -18,7 +18,7 @@ pub enum Reply {
 pub enum Asked {
     AlwaysTrue(NodeId),
     AlwaysFalse(NodeId),
-    Equal(NodeId, NodeId),
+    AlwaysEqual(NodeId, NodeId),
     Satisfiable(NodeId),
     /// Whether so many kept bad states are all always false.
     AllAlwaysFalse(u64),
@@ -147,7 +147,7 @@ fn read_question(words: &[u64]) -> Option<Question> {
     let asked = match words[0] {
         1 => Asked::AlwaysTrue(first),
         2 => Asked::AlwaysFalse(first),
-        3 => Asked::Equal(first, NodeId(words[2])),
+        3 => Asked::AlwaysEqual(first, NodeId(words[2])),
         4 => Asked::Satisfiable(first),
         5 => Asked::AllAlwaysFalse(words[1]),
         _ => return None,

@@ -24,7 +24,7 @@
 //!
 //! The library visits a node by visiting its operands, so each node of a chain takes stack (docs/PERFORMANCE.md, "Stack", says how much), and
 //! what a caller has left of its own is not known. Every function of this crate that folds therefore starts a thread of its own with
-//! [`stack_for`] bytes: a fold does not overflow, whatever stack its caller has. [`here`] has the same calls without that thread, for a
+//! [`stack_for`] bytes, so what its caller has left does not matter. [`here`] has the same calls without that thread, for a
 //! caller who has seen to the stack. "The Rust crate's calls" there says what the thread costs.
 //!
 //! # Panics

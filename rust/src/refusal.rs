@@ -23,7 +23,7 @@ pub enum Refusal {
     Malformed { node: u64 },
     /// 4: an operand that is not before its node.
     OperandNotBefore { node: u64 },
-    /// 5: sorts that do not fit.
+    /// 5: sorts that do not fit, a number too wide for its sort, or an operand that is a Next, a Bad or no State.
     Sorts { node: u64 },
     /// 6: a list entry past the table or of the wrong kind, or a Next whose state has no init.
     Entry { section: u64, place: u64 },
@@ -159,7 +159,7 @@ impl fmt::Display for Refusal {
             Refusal::OperandNotBefore { .. } => {
                 write!(f, "node {place}: operand not before its node")
             }
-            Refusal::Sorts { .. } => write!(f, "node {place}: sorts do not fit"),
+            Refusal::Sorts { .. } => write!(f, "node {place}: its sorts do not fit, its number is too wide, or an operand is a Next, a Bad or no State"),
             Refusal::Entry { section: 2, .. } => {
                 write!(f, "{named}, entry {place}: not a Next whose state has an init")
             }

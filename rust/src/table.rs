@@ -20,9 +20,9 @@ pub const LONGEST_NAME: usize = 64;
 pub struct Mode {
     /// Ask the solver about nodes that did not fold.
     pub minimise: bool,
-    /// Refuse a bad state that is true or satisfiable.
+    /// Refuse a bad state that is always true or satisfiable.
     pub terminate: bool,
-    /// Put one question about all initial bad states at the end.
+    /// Put one question about all initial bad states at the end. Turns terminate on, and leaves the sequential bad states unvisited.
     pub one_query: bool,
 }
 

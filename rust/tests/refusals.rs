@@ -129,7 +129,7 @@ fn number_4() {
 #[test]
 fn number_5() {
     let wide = Node::Const { sort: Sort::Bytes(1), number: 256 };
-    refused(0, &of(&[wide]), [5, 1, 0], "node 0: sorts do not fit");
+    refused(0, &of(&[wide]), [5, 1, 0], "node 0: its sorts do not fit, its number is too wide, or an operand is a Next, a Bad or no State");
 }
 
 #[test]

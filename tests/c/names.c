@@ -32,6 +32,8 @@ static gemtweed_answer fold(uint64_t mode)
 
 static uint64_t tally(gemtweed_answer answer, int place)
 {
+    if (answer.number != GEMTWEED_ACCEPTED)
+        return UINT64_MAX;
     return result[answer.words - GEMTWEED_TALLY_FIGURES + (size_t)place];
 }
 
