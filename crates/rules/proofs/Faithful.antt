@@ -21,7 +21,7 @@ use Rattle.rules.specs.Value.{Value, number, memory, meaning, valueBy, v
 use Rattle.rules.specs.Whole.{trivial}
 use Rattle.rules.specs.Laws.{SortFor}
 use Rattle.rules.specs.Demand.{Assigns, SameInit, Same, Faithful, Unreplaced, worthOf}
-use Rattle.rules.specs.Call.{FaithfulOfCall, SomeAssigns}
+use Rattle.rules.specs.Call.{FaithfulOfCall, AnyAssigns, SomeAssigns}
 use Rattle.btor.proofs.Agreement.{cases}
 use Rattle.rules.proofs.Base.{cases-cond, is-kind}
 use Rattle.rules.proofs.Legal.{legal-as, init-operand, state-ok}
@@ -38,8 +38,11 @@ empty s = elim (eqb s 3) [ true ↦ memory (λ j. 0) | false ↦ number 0 ]
 empty-fits : (s : ℕ) → Fits s (empty s)
 empty-fits s = cases (Fits s) (eqb s 3) (λ e. (eqb-true s 3 e, λ j. lit< tt)) (λ e. (eqb-false s 3 e, pow-pos (width s)))
 
+pub any-assigns : AnyAssigns
+any-assigns t β h k l e = h k l
+
 pub some-assigns : SomeAssigns
-some-assigns t = ((λ k. empty (nodeAt t k .sort)), λ k l e. empty-fits (nodeAt t k .sort))
+some-assigns t = ((λ k. empty (nodeAt t k .sort)), any-assigns t (λ k. empty (nodeAt t k .sort)) (λ k l. empty-fits (nodeAt t k .sort)))
 
 -- the value of the first operand, if there is one
 abbrev first : (ℕ → Value) → List ℕ → Value → Value

@@ -1,4 +1,4 @@
--- The two calls at work: their premises by computation, the rest by demand 3 and by the assignment that every accepted call has.
+-- The three calls at work: their premises by computation, the rest by demand 3 and by the assignment that every accepted call has.
 -- Assumes nothing.
 use Prim.Native.Nat.{ℕ, _<_, _^_}
 use mathlib.Core.Path.{_≡_, refl, sym, ap, _∙_, subst}
@@ -15,17 +15,19 @@ use Rattle.rules.specs.Lists.{All}
 use Rattle.rules.specs.Refusal.{Out, refused, done}
 use Rattle.rules.specs.Table.{Node, nodeAt, decode}
 use Rattle.rules.specs.Check.{check, checkNodes, checkSequentials, checkBads}
-use Rattle.rules.specs.Value.{Value, number, num, value, over, overIn, Fits}
+use Rattle.rules.specs.Value.{Value, number, num, worth, value, over, overIn, Fits}
 use Rattle.rules.specs.Walk.{St, Mark, fresh, replaced, Question, Held}
-use Rattle.rules.specs.Questions.{ask, askOr}
-use Rattle.rules.specs.Visit.{visit, process, iteOn, settle, finish, finishStay, unary, binary, visit1, visit2, takeInput}
+use Rattle.rules.specs.Memory.{find, lookAt}
+use Rattle.rules.specs.Questions.{ask, askOr, satisfiable, question}
+use Rattle.rules.specs.Visit.{visit, process, iteOn, forward, settle, finish, finishStay, unary, binary, visit1, visit2, visit3, takeInput}
 use Rattle.rules.specs.Whole.{trivial, run, fold, foldBads, judgeBads, judgeSequentials, visitAll, lastQuestion}
 use Rattle.rules.specs.Demand.{Assigns, worthOf, NonePassed, Faithful, Unreplaced, Same, Holds, RepliesHold, Keeps}
 use Rattle.rules.specs.Limits.{Limits, house}
 use Rattle.rules.specs.Sections.{rowsWords, encode, cutSection, rowsOf, cutSix, cut}
 use Rattle.rules.specs.Names.{cutNames, countedNames, namesOf, startsWith}
 use Rattle.rules.specs.Call.{Call, Entry, impl, Accepted, judgeMode, judgeRoom, judgeAndFold, judgeCut, outcome, Demand3OfCall, FaithfulOfCall}
-use Rattle.rules.specs.Worked.{OfAccepted, FaithfulTo, HoldIn, valueIn, Premises, Follows, Replaced, replacedRows, replacedHeld, replacedAsked, replacedCall, ReplacedWorked, severalCall, SeveralWorked}
+use Rattle.rules.specs.Cases.{row}
+use Rattle.rules.specs.Worked.{OfAccepted, FaithfulTo, HoldIn, valueIn, Premises, Follows, Replaced, replacedRows, replacedHeld, replacedAsked, replacedCall, ReplacedWorked, severalCall, SeveralWorked, Stepped, steppedRows, steppedCall, SteppedWorked}
 use Rattle.btor.proofs.Agreement.{cases}
 use Rattle.rules.proofs.Words.{width-word}
 use Rattle.rules.proofs.Call.{demand3-of-call}
@@ -246,3 +248,101 @@ several-worked =
       follows = several-follows;
       values = λ α f. sym {a = number 0} (several-follows .every α f .replacements 2 9 (lit< tt) (refl {a = replaced 9}));
     }
+
+-- ---- the third
+abbrev steps : List Node
+steps = map decode steppedRows
+
+record StepFacts : Type 0 where
+  reading : Reading
+  table : List Node
+  sequentials : List ℕ
+  stepping : List ℕ
+  later : List ℕ
+  held : List Held
+  asked : List Question
+  read : Mark
+  next : Node
+  looked : ℕ
+  passed : ℕ
+
+abbrev stepFactsOf : Accepted → StepFacts
+stepFactsOf a =
+    record {
+      reading = a .how .reading;
+      table = a .model .table;
+      sequentials = a .model .sequentials;
+      stepping = a .folded .sequentials;
+      later = a .folded .later;
+      held = a .folded .state .held;
+      asked = a .folded .state .asked;
+      read = a .folded .state .mark 6;
+      next = a .folded .state .rows 8;
+      looked = a .folded .state .looked;
+      passed = a .folded .state .passed;
+    }
+
+abbrev stepFacts : StepFacts
+stepFacts =
+    record {
+      reading = rust;
+      table = steps;
+      sequentials = 8 ∷ [];
+      stepping = 8 ∷ [];
+      later = 10 ∷ [];
+      held = [];
+      asked = question satisfiable 9 0 [] 2 ∷ [];
+      read = replaced 0;
+      next = decode (row 20 2 7 0 0 0);
+      looked = 2;
+      passed = 0;
+    }
+
+stepped-computed : OfAccepted (λ a. stepFactsOf a ≡ stepFacts) (outcome house impl steppedCall)
+unfolding outcome judgeMode encode rowsWords cut cutSix cutSection rowsOf namesOf countedNames cutNames judgeCut judgeRoom startsWith judgeAndFold run check checkNodes checkSequentials checkBads width ones fold foldBads judgeBads judgeSequentials visitAll lastQuestion ask askOr visit process forward find lookAt settle finish finishStay unary binary visit1 visit2 visit3 takeInput
+stepped-computed = refl {a = stepFacts}
+
+module _ (a : Accepted) (e : stepFactsOf a ≡ stepFacts) where
+  abbrev σ₃ : St
+  σ₃ = a .folded .state
+
+  step-hold : (α : ℕ → Value) → HoldIn a α
+  step-hold α = subst (All (Holds (worthOf (a .how .reading) (a .model .table) α σ₃))) (sym (ap (λ x. x .asked) e)) ((λ z. let o : ⊥ = omega (arith, z) in absurd o), tt)
+
+  step-presumed : Premises a
+  step-presumed =
+      record {
+        passed = subst (λ how. NonePassed how (a .folded)) (sym (ap (λ x. x .reading) e)) (ap (λ x. x .passed) e);
+        replies = λ α f. step-hold α;
+      }
+
+  step-free : Free a
+  step-free =
+      subst (λ x. (nodeAt (x .table) 0 .sort ≡ 2) × (All (λ s. trivial (x .table) (nodeAt (x .table) s) ≡ true → nodeAt (x .table) s .a ≢ 0) (x .sequentials) × All (λ h. h .state ≢ 0) (x .held))) (sym e)
+      (refl, (((λ _ z. omega (arith, z)), tt), tt))
+
+  step-values : Follows a → (α : ℕ → Value) → FaithfulTo a α → (valueIn a α 6 ≡ valueIn a α 0) × (valueIn a α 8 ≡ valueIn a α 0)
+  unfolding value over overIn worthOf
+  step-values follow α f =
+      let keeps = subst (λ x. Keeps (x .reading) (x .table) (a .folded) α) e (follow .every α f) in
+      let worth-next = ap (λ nd. worth rust (worthOf rust steps α σ₃) (α 8) nd) (ap (λ x. x .next) e) in
+      subst (λ x. (value (x .reading) (nodeAt (x .table)) α 6 ≡ value (x .reading) (nodeAt (x .table)) α 0) × (value (x .reading) (nodeAt (x .table)) α 8 ≡ value (x .reading) (nodeAt (x .table)) α 0)) (sym e)
+      (sym (keeps .replacements 6 0 (lit< tt) (ap (λ x. x .read) e)), sym (keeps .rows 8 (lit< tt)) ∙ worth-next)
+
+stepped-at : (o : Out Accepted) → outcome house impl steppedCall ≡ o → OfAccepted (λ a. stepFactsOf a ≡ stepFacts) o → OfAccepted Stepped o
+stepped-at (refused r) q e = e
+stepped-at (done a) q e =
+    let follow = follows house impl steppedCall (done a) q (step-presumed a e) (step-free a e) in
+    record {
+      sequentials = ap (λ x. x .stepping) e;
+      later = ap (λ x. x .later) e;
+      asked = ap (λ x. x .asked) e;
+      looked = ap (λ x. x .looked) e;
+      premises = step-presumed a e;
+      follows = follow;
+      values = step-values a e follow;
+    }
+
+pub stepped-worked : SteppedWorked
+unfolding SteppedWorked
+stepped-worked = stepped-at (outcome house impl steppedCall) refl stepped-computed

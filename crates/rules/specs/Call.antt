@@ -3,15 +3,15 @@
 --     left               the answer, the result buffer and the scratch buffer after a call
 --     optimizeModelImpl, optimizeModelWithSolver, optimizeModelWithInput   the three entry points
 -- Assumes nothing.
-use Prim.Native.Nat.{ℕ, _+_, _-_}
+use Prim.Native.Nat.{ℕ, _+_, _-_, _<_}
 use mathlib.Core.Path.{_≡_}
 use mathlib.Core.Bool.{true, false}
 use mathlib.Core.List.{List, [], _++_, flatten}
 use lib.ListN.{length, replicate}
 use lib.Dec.{ltb}
-use Rattle.rules.specs.Value.{Value}
+use Rattle.rules.specs.Value.{Value, Fits}
 use Rattle.rules.specs.Refusal.{Out, refused, done, refuse, _>>=_, unlessRefused}
-use Rattle.rules.specs.Table.{Node}
+use Rattle.rules.specs.Table.{Node, nodeAt}
 use Rattle.rules.specs.Check.{check}
 use Rattle.rules.specs.Model.{Model, Mode, modelOf}
 use Rattle.rules.specs.Whole.{Folded, fold, run}
@@ -176,6 +176,9 @@ FaithfulOfCall =
     → (α : ℕ → Value) × Faithful (a .how .reading) (a .model .table) (a .model .sequentials) (a .folded .state) α
     × ((k : ℕ) → Unreplaced (a .model .table) (a .model .sequentials) (a .folded .state) k → α k ≡ β k)
 
--- and some assignment fits
+-- an assignment may give any values that fit, and some do
+abbrev pub AnyAssigns : Type 0
+AnyAssigns = (t : List Node) (β : ℕ → Value) → ((k : ℕ) → k < length t → Fits (nodeAt t k .sort) (β k)) → Assigns t β
+
 abbrev pub SomeAssigns : Type 0
 SomeAssigns = (t : List Node) → (β : ℕ → Value) × Assigns t β

@@ -1,7 +1,8 @@
--- Demand 3 at work: two calls that meet its premises, what each of them replaced, asked and dropped, and what follows.
+-- Demand 3 at work: three calls that meet its premises, what each of them replaced, asked and dropped, and what follows.
 --     Premises, Follows     demand 3's two premises, and its conclusion of some assignment and of every faithful one
 --     ReplacedWorked        a dropped Next, a state that took an input, and replies of yes to every kind of question that a node or a bad draws
 --     SeveralWorked         one-query with two bads left, and the reply that neither can be
+--     SteppedWorked         a kept Next, a memory, a Read past a settled Write to its value, and a bad that is found satisfiable
 -- Assumes nothing.
 use Prim.Native.Nat.{ℕ, _<_, _^_}
 use mathlib.Core.Path.{_≡_}
@@ -107,3 +108,25 @@ pub record Several (a : Accepted) : Type 0 where
 
 unfoldable pub SeveralWorked : Type 0
 SeveralWorked = OfAccepted Several (outcome house impl severalCall)
+
+-- ---- 0 an Input, 1 a memory State, 2 and 3 the numbers 5 and 7, 4 the memory with 0 written at 5, 5 that with 7 written at 7, 6 what is read at 5,
+-- 7 a State with init 5, 8 its Next, which is 6, 9 whether 7 is 0, 10 a Bad: the Read is the Input, so the State's next value is
+abbrev pub steppedRows : List Row
+steppedRows =
+    row 21 2 0 0 0 1 ∷ row 19 3 0 0 0 0 ∷ row 1 2 5 0 0 0 ∷ row 1 2 7 0 0 0 ∷ row 3 3 1 2 0 0 ∷ row 3 3 4 3 3 0 ∷ row 2 2 5 2 0 0
+    ∷ row 19 2 2 1 0 0 ∷ row 20 2 7 6 0 0 ∷ row 15 1 7 0 0 0 ∷ row 22 1 9 0 0 0 ∷ []
+
+abbrev pub steppedCall : Call
+steppedCall = callOf 0 (record { rows = steppedRows; sequentials = 8 ∷ []; initial = []; later = 10 ∷ []; inputs = []; replies = 2 ∷ [] })
+
+pub record Stepped (a : Accepted) : Type 0 where
+  pub sequentials : a .folded .sequentials ≡ 8 ∷ []
+  pub later : a .folded .later ≡ 10 ∷ []
+  pub asked : a .folded .state .asked ≡ question satisfiable 9 0 [] 2 ∷ []
+  pub looked : a .folded .state .looked ≡ 2
+  pub premises : Premises a
+  pub follows : Follows a
+  pub values : (α : ℕ → Value) → FaithfulTo a α → (valueIn a α 6 ≡ valueIn a α 0) × (valueIn a α 8 ≡ valueIn a α 0)
+
+unfoldable pub SteppedWorked : Type 0
+SteppedWorked = OfAccepted Stepped (outcome house impl steppedCall)
