@@ -3,7 +3,7 @@
 -- Assumes nothing.
 use Prim.Native.Nat.{ℕ}
 use mathlib.Core.Path.{_≡_, refl, sym, ap, _∙_}
-use mathlib.Core.Logic.{_≢_}
+use mathlib.Core.Logic.{_≢_, inl, inr}
 use mathlib.Core.List.{List}
 use lib.ListN.{length, replicate}
 use contract.Lifetimes.{Lfts}
@@ -12,12 +12,14 @@ use denote.Triple.Clauses.{AtExit}
 use borrow.Fn.Kinds.{Dens, endedOf}
 use Rattle.rules.specs.Refusal.{Out, refused, done}
 use Rattle.rules.specs.Limits.{house}
-use Rattle.rules.specs.Call.{Entry, Call, Accepted, Answer, answerOf, resultOf, outcome, left, impl, withSolver, withInput}
+use Rattle.rules.specs.Table.{nodeAt}
+use Rattle.rules.specs.Value.{Value, number}
+use Rattle.rules.specs.Call.{Entry, Call, Accepted, Answer, answerOf, resultOf, outcome, left, impl, withSolver, withInput, FaithfulTo, valueIn, Premises}
 use Rattle.rules.proofs.Numbered.{accepted-answer}
 use Rattle.tables.specs.Judging.{callWith}
 use Rattle.optimize.specs.declared.walk.Optimized.{Optimized}
 use Rattle.optimize.specs.Entries.{answered}
-use Rattle.optimize.specs.Demand.{Kept, Demand3OfResult}
+use Rattle.optimize.specs.Demand.{Kept, Dropped, Demand3OfResult}
 use Rattle.optimize.proofs.Demand.{demand-3-of-result}
 use Rattle.gemtweed.specs.declared.fold.GemtweedAnswer.{GemtweedAnswer}
 use Rattle.gemtweed.specs.Answers.{answerIs}
@@ -45,6 +47,11 @@ module _ (entry : Entry) (call : Call) (r : GemtweedAnswer) (Q S : List ℕ) (l 
       let a = accepted-answer house entry call (sym (ap (λ (z : Answer). z .number) (l .answer)) ∙ z) in
       demand-3-of-result entry call (r .words) Q S (record { answer = done-answer (a .0) (a .1); result = l .result; scratch = l .scratch })
 
+  false-where-dropped : (z : r .number ≡ 0) → Premises (kept z .accepted) → (α : ℕ → Value) → FaithfulTo (kept z .accepted) α
+      → (b : ℕ) → Dropped (kept z .accepted .model) Q b → valueIn (kept z .accepted) α (nodeAt (kept z .accepted .model .table) b .a) ≡ number 0
+  false-where-dropped z h α f b (inl l) = kept z .keeps h α f .initial b l
+  false-where-dropped z h α f b (inr l) = kept z .keeps h α f .later b l
+
   nothing : (o : Out Accepted) → outcome house entry call ≡ o → r .number ≢ 0 → Q ≡ replicate (call .resultRoom) 0
   unfolding left
   nothing (refused w) e n = l .result ∙ ap (resultOf (call .resultRoom)) e
@@ -57,7 +64,7 @@ module _ (entry : Entry) (call : Call) (r : GemtweedAnswer) (Q S : List ℕ) (l 
 pub demand-3-of-answer : Demand3OfAnswer
 unfolding Demand3OfAnswer
 demand-3-of-answer entry call r Q S l =
-    record { accepted = kept entry call r Q S l; refused = nothing entry call r Q S l (outcome house entry call) refl; scratch = zeros entry call r Q S l }
+    record { accepted = kept entry call r Q S l; dropped = false-where-dropped entry call r Q S l; refused = nothing entry call r Q S l (outcome house entry call) refl; scratch = zeros entry call r Q S l }
 
 -- ---- the exported functions
 pub gemtweed-optimize-model-impl : (κs : Lfts 4) (a : Dens κs impl-kinds.ps) (r : GemtweedAnswer) (e : AtExit (endedOf 4 impl-kinds.ps impl-kinds.r) κs)

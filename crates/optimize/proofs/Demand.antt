@@ -124,7 +124,7 @@ module _ (entry : Entry) (call : Call) (count : ℕ) (Q S : List ℕ) (c : Contr
         follows = e;
         counted = ap (λ (z : Answer). z .words) (c .answer ∙ ap answerOf e);
         words = words;
-        keeps = λ h α faithful. words-keep (a .model) (a .how) (a .folded) wf (p .folds) Q back (a .how .reading) α (demand3-of-call house entry call a e (h .0) (h .1) α faithful);
+        keeps = λ h α faithful. words-keep (a .model) (a .how) (a .folded) wf (p .folds) Q back (a .how .reading) α (demand3-of-call house entry call a e h α faithful);
       }
 
 pub demand-3-of-result : Demand3OfResult

@@ -6,6 +6,7 @@
 -- Assumes nothing.
 use Prim.Native.Nat.{ℕ, _+_, _-_, _*_, _<_}
 use mathlib.Core.Path.{_≡_}
+use mathlib.Core.Logic.{_⊎_}
 use mathlib.Core.Bool.{cond}
 use mathlib.Core.List.{List, [], _∷_, _++_}
 use lib.ListN.{length, getD, drop, replicate}
@@ -16,8 +17,7 @@ use Rattle.rules.specs.Limits.{house}
 use Rattle.rules.specs.Table.{Node, nodeAt}
 use Rattle.rules.specs.Model.{Model}
 use Rattle.rules.specs.Value.{Value, number, worth, value}
-use Rattle.rules.specs.Demand.{NonePassed, Faithful, RepliesHold}
-use Rattle.rules.specs.Call.{Entry, Call, Accepted, outcome, wordsOf, left}
+use Rattle.rules.specs.Call.{Entry, Call, Accepted, outcome, wordsOf, left, FaithfulTo, Premises}
 use Rattle.optimize.specs.declared.walk.Optimized.{Optimized}
 use Rattle.optimize.specs.View.{countOf, nodeOf}
 use Rattle.optimize.specs.Lists.{entriesOf}
@@ -69,21 +69,18 @@ pub record KeepsIn (how : Reading) (m : Model) (Q : List ℕ) (α : ℕ → Valu
   pub initial : (b : ℕ) → times b (listIn (initialOn Q)) < times b (m .initial) → value how (nodeAt (m .table)) α (nodeAt (m .table) b .a) ≡ number 0
   pub later : (b : ℕ) → times b (listIn (laterOn Q)) < times b (m .later) → value how (nodeAt (m .table)) α (nodeAt (m .table) b .a) ≡ number 0
 
--- "no Read that found its value passed an unsettled Write", "each reply of 1 that a question took holds in every faithful assignment"
-abbrev pub Presumed : Accepted → Type 0
-Presumed a =
-    NonePassed (a .how .reading) (a .folded)
-    × ((α : ℕ → Value) → Faithful (a .how .reading) (a .model .table) (a .model .sequentials) (a .folded .state) α → RepliesHold (a .how .reading) (a .model .table) α (a .folded .state))
-
 -- a call that answered `Done count` is one that the rules accept, the result holds the rules' words and zeros after them, and they keep the values
 pub record Kept (entry : Entry) (call : Call) (count : ℕ) (Q : List ℕ) : Type 0 where
   pub accepted : Accepted
   pub follows : outcome house entry call ≡ done accepted
   pub counted : count ≡ length (wordsOf accepted)
   pub words : Q ≡ wordsOf accepted ++ replicate (call .resultRoom - length (wordsOf accepted)) 0
-  pub keeps : Presumed accepted → (α : ℕ → Value)
-      → Faithful (accepted .how .reading) (accepted .model .table) (accepted .model .sequentials) (accepted .folded .state) α
+  pub keeps : Premises accepted → (α : ℕ → Value) → FaithfulTo accepted α
       → KeepsIn (accepted .how .reading) (accepted .model) Q α
 
 unfoldable pub Demand3OfResult : Type 0
 Demand3OfResult = (entry : Entry) (call : Call) (count : ℕ) (Q S : List ℕ) → Contract entry call (Optimized.Done count) Q S → Kept entry call count Q
+
+-- an entry that a kept list has fewer times than the given one
+abbrev pub Dropped : Model → List ℕ → ℕ → Type 0
+Dropped m Q b = (times b (listIn (initialOn Q)) < times b (m .initial)) ⊎ (times b (listIn (laterOn Q)) < times b (m .later))

@@ -213,6 +213,6 @@ module _ (limits : Limits) (entry : Entry) (call : Call) where
 -- ---- demand 3
 pub demand3-of-call : Demand3OfCall
 unfolding Demand3OfCall Demand3OfFold
-demand3-of-call limits entry call a e =
+demand3-of-call limits entry call a e h =
     let p = passed limits entry call a e in
-    demand-3-of-fold (a .model) (a .how) (a .folded) (call-formed limits entry call a p) (p .folds)
+    demand-3-of-fold (a .model) (a .how) (a .folded) (call-formed limits entry call a p) (p .folds) (h .passed) (h .replies)

@@ -25,9 +25,9 @@ use Rattle.rules.specs.Demand.{Assigns, worthOf, NonePassed, Faithful, U
 use Rattle.rules.specs.Limits.{Limits, house}
 use Rattle.rules.specs.Sections.{rowsWords, encode, cutSection, rowsOf, cutSix, cut}
 use Rattle.rules.specs.Names.{cutNames, countedNames, namesOf, startsWith}
-use Rattle.rules.specs.Call.{Call, Entry, impl, Accepted, judgeMode, judgeRoom, judgeAndFold, judgeCut, outcome, Demand3OfCall, FaithfulOfCall}
+use Rattle.rules.specs.Call.{Call, Entry, impl, Accepted, judgeMode, judgeRoom, judgeAndFold, judgeCut, outcome, FaithfulTo, HoldIn, valueIn, Premises, Demand3OfCall, FaithfulOfCall}
 use Rattle.rules.specs.Cases.{row}
-use Rattle.rules.specs.Worked.{OfAccepted, FaithfulTo, HoldIn, valueIn, Premises, Follows, Replaced, replacedRows, replacedHeld, replacedAsked, replacedCall, ReplacedWorked, severalCall, SeveralWorked, Stepped, steppedRows, steppedCall, SteppedWorked}
+use Rattle.rules.specs.Worked.{OfAccepted, Follows, Replaced, replacedRows, replacedHeld, replacedAsked, replacedCall, ReplacedWorked, severalCall, SeveralWorked, Stepped, steppedRows, steppedCall, SteppedWorked}
 use Rattle.btor.proofs.Agreement.{cases}
 use Rattle.rules.proofs.Words.{width-word}
 use Rattle.rules.proofs.Call.{demand3-of-call}
@@ -54,7 +54,7 @@ follows limits entry call (refused r) e p q = p
 follows limits entry call (done a) e p q =
     record {
       some = λ x l. let f = faithful-of-call limits entry call a e (giving (a .model .table) x l (q .0)) (giving-fits (a .model .table) x l (q .0)) in (f .0, f .1, f .2 0 (q .1));
-      every = demand3-of-call limits entry call a e (p .passed) (p .replies);
+      every = demand3-of-call limits entry call a e p;
     }
 
 -- a number is not below itself, and none is below 0

@@ -9,7 +9,7 @@ use mathlib.Core.Bool.{true, false}
 use mathlib.Core.List.{List, [], _++_, flatten}
 use lib.ListN.{length, replicate}
 use lib.Dec.{ltb}
-use Rattle.rules.specs.Value.{Value, Fits}
+use Rattle.rules.specs.Value.{Value, value, Fits}
 use Rattle.rules.specs.Refusal.{Out, refused, done, refuse, _>>=_, unlessRefused}
 use Rattle.rules.specs.Table.{Node, nodeAt}
 use Rattle.rules.specs.Check.{check}
@@ -159,22 +159,32 @@ abbrev pub optimizeModelWithInput : List ℕ → List ℕ → ℕ → ℕ → Le
 optimizeModelWithInput words names r s = left house withInput (record { mode = 0; words = words; names = names; resultRoom = r; scratchRoom = s })
 
 -- ---- demand 3, of every call that is not refused
+-- its faithful assignments, the replies that hold in one, and a node's value in the given table
+abbrev pub FaithfulTo : Accepted → (ℕ → Value) → Type 0
+FaithfulTo a α = Faithful (a .how .reading) (a .model .table) (a .model .sequentials) (a .folded .state) α
+
+abbrev pub HoldIn : Accepted → (ℕ → Value) → Type 0
+HoldIn a α = RepliesHold (a .how .reading) (a .model .table) α (a .folded .state)
+
+abbrev pub valueIn : Accepted → (ℕ → Value) → ℕ → Value
+valueIn a α k = value (a .how .reading) (nodeAt (a .model .table)) α k
+
+-- its two premises
+pub record Premises (a : Accepted) : Type 0 where
+  pub passed : NonePassed (a .how .reading) (a .folded)
+  pub replies : (α : ℕ → Value) → FaithfulTo a α → HoldIn a α
+
 unfoldable pub Demand3OfCall : Type 0
 Demand3OfCall =
     (limits : Limits) (entry : Entry) (call : Call) (a : Accepted) → outcome limits entry call ≡ done a
-    → NonePassed (a .how .reading) (a .folded)
-    → ((α : ℕ → Value) → Faithful (a .how .reading) (a .model .table) (a .model .sequentials) (a .folded .state) α
-    → RepliesHold (a .how .reading) (a .model .table) α (a .folded .state))
-    → (α : ℕ → Value) → Faithful (a .how .reading) (a .model .table) (a .model .sequentials) (a .folded .state) α
-    → Keeps (a .how .reading) (a .model .table) (a .folded) α
+    → Premises a → (α : ℕ → Value) → FaithfulTo a α → Keeps (a .how .reading) (a .model .table) (a .folded) α
 
 -- it is not said of nothing: whatever an assignment that fits gives the Inputs and the states that are not replaced, some faithful one gives them too
 unfoldable pub FaithfulOfCall : Type 0
 FaithfulOfCall =
     (limits : Limits) (entry : Entry) (call : Call) (a : Accepted) → outcome limits entry call ≡ done a
     → (β : ℕ → Value) → Assigns (a .model .table) β
-    → (α : ℕ → Value) × Faithful (a .how .reading) (a .model .table) (a .model .sequentials) (a .folded .state) α
-    × ((k : ℕ) → Unreplaced (a .model .table) (a .model .sequentials) (a .folded .state) k → α k ≡ β k)
+    → (α : ℕ → Value) × FaithfulTo a α × ((k : ℕ) → Unreplaced (a .model .table) (a .model .sequentials) (a .folded .state) k → α k ≡ β k)
 
 -- an assignment may give any values that fit, and some do
 abbrev pub AnyAssigns : Type 0

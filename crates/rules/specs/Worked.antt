@@ -1,5 +1,5 @@
 -- Demand 3 at work: three calls that meet its premises, what each of them replaced, asked and dropped, and what follows.
---     Premises, Follows     demand 3's two premises, and its conclusion of some assignment and of every faithful one
+--     Follows               demand 3's conclusion, of some assignment and of every faithful one
 --     ReplacedWorked        a dropped Next, a state that took an input, and replies of yes to every kind of question that a node or a bad draws
 --     SeveralWorked         one-query with two bads left, and the reply that neither can be
 --     SteppedWorked         a kept Next, a memory, a Read past a settled Write to its value, and a bad that is found satisfiable
@@ -8,33 +8,19 @@ use Prim.Native.Nat.{ℕ, _<_, _^_}
 use mathlib.Core.Path.{_≡_}
 use mathlib.Core.List.{List, [], _∷_}
 use Rattle.rules.specs.Refusal.{Out, refused, done}
-use Rattle.rules.specs.Table.{Row, nodeAt}
-use Rattle.rules.specs.Value.{Value, number, value}
+use Rattle.rules.specs.Table.{Row}
+use Rattle.rules.specs.Value.{Value, number}
 use Rattle.rules.specs.Walk.{Question, Held}
 use Rattle.rules.specs.Questions.{alwaysTrue, alwaysFalse, equal, satisfiable, several, question}
-use Rattle.rules.specs.Demand.{NonePassed, Faithful, RepliesHold, Keeps}
+use Rattle.rules.specs.Demand.{Keeps}
 use Rattle.rules.specs.Limits.{house}
-use Rattle.rules.specs.Call.{Call, impl, Accepted, outcome}
+use Rattle.rules.specs.Call.{Call, impl, Accepted, outcome, FaithfulTo, HoldIn, valueIn, Premises}
 use Rattle.rules.specs.Cases.{row, callOf}
 
 -- the call is accepted, and P holds of what it comes to
 abbrev pub OfAccepted : (Accepted → Type 0) → Out Accepted → Type 0
 OfAccepted P (refused r) = ⊥
 OfAccepted P (done a) = P a
-
-abbrev pub FaithfulTo : Accepted → (ℕ → Value) → Type 0
-FaithfulTo a α = Faithful (a .how .reading) (a .model .table) (a .model .sequentials) (a .folded .state) α
-
-abbrev pub HoldIn : Accepted → (ℕ → Value) → Type 0
-HoldIn a α = RepliesHold (a .how .reading) (a .model .table) α (a .folded .state)
-
--- a node's value in the given table
-abbrev pub valueIn : Accepted → (ℕ → Value) → ℕ → Value
-valueIn a α k = value (a .how .reading) (nodeAt (a .model .table)) α k
-
-pub record Premises (a : Accepted) : Type 0 where
-  pub passed : NonePassed (a .how .reading) (a .folded)
-  pub replies : (α : ℕ → Value) → FaithfulTo a α → HoldIn a α
 
 -- some assignment is faithful, with any value that fits for the Input 0
 pub record Follows (a : Accepted) : Type 0 where
