@@ -14,24 +14,10 @@ const SIZES: [u64; 4] = [64, 256, 1024, 4096];
 const LEAST_RUNS: u32 = 50;
 const LEAST_TIME: Duration = Duration::from_millis(250);
 
-#[repr(C)]
-struct Answer {
-    number: u64,
-    section: u64,
-    position: u64,
-    words: u64,
-}
-
-#[rustfmt::skip]
-extern "C" {
-    fn gemtweed_optimize_model_impl(
-        mode: u64,
-        words: *const u64, words_len: usize,
-        names: *const u8, names_len: usize,
-        result: *mut u64, result_len: usize,
-        scratch: *mut u64, scratch_len: usize,
-    ) -> Answer;
-}
+// The exported functions, as the crate itself declares them.
+#[allow(dead_code)]
+#[path = "../src/ffi.rs"]
+mod ffi;
 
 fn number(number: u64) -> Node {
     Node::Const { sort: Sort::Word, number }
@@ -94,7 +80,7 @@ fn start_thread(words: &[u64]) {
 fn c_call(words: &[u64], names: &[u8], result: &mut [u64], scratch: &mut [u64]) -> usize {
     // Four slices that do not overlap.
     let answer = unsafe {
-        gemtweed_optimize_model_impl(
+        ffi::gemtweed_optimize_model_impl(
             0,
             words.as_ptr(),
             words.len(),

@@ -2,7 +2,7 @@
 -- Eq and Ext equal at each width; tests as bits and Ite are BTOR2's; memories obey ArraysEx. By the numbers of SMT-LIB's vectors (BitVectors), and
 -- signed division by its four signs.
 -- Assumes nothing.
-use Prim.Native.Nat.{ℕ, suc, _+_, _-_, _*_, _/_, _%_, _^_, _<_, _≤_}
+use Prim.Native.Nat.{ℕ, _+_, _-_, _*_, _/_, _%_, _^_, _<_, _≤_}
 use mathlib.Core.Path.{_≡_, refl, sym, ap, ap₂, _∙_, subst, fun-ext}
 use mathlib.Core.Logic.{_≢_}
 use mathlib.Core.Bool.{Bool, true, false, cond, not, _&&_, _||_, false≢true}
@@ -11,9 +11,9 @@ use native.Mathlib.Nat.{mod-eq-of-lt}
 use lib.Dec.{ltb, eqb, lit<}
 use lib.Bits.{and-lt, or-lt}
 use lib.Signed.{quotZ}
-use borrow.Author.Tests.{eqb-true, eqb-false, eq-eqb, ne-eqb, ltb-true, ltb-false, lt-ltb, le-ltb}
-use Rattle.btor.specs.Operators.{Op, Add, Sub, Mul, Divu, Div, Rem, Sll, Srl, Reading, rust, standard, compute, signedDiv, signed, word, overflow, complement, bit, Memory, read, write, divByZero, leastByMinusOne}
-use Rattle.btor.specs.Standard.{BitVector, bv2nat, nat2bv, bvneg, bvudiv, bvsdiv, bvand, bvor, bvnot, bvult, zeroExtend, bitVectorOp, onNumbers, Equal, ite, Truth, testBit, ArraysEx}
+use borrow.Author.Tests.{eqb-true, eqb-false, eq-eqb, ne-eqb, ltb-true, ltb-false}
+use Rattle.btor.specs.Operators.{Op, Add, Sub, Mul, Divu, Div, Rem, Sll, Srl, rust, standard, compute, signedDiv, signed, word, overflow, complement, bit, divByZero, leastByMinusOne}
+use Rattle.btor.specs.Standard.{BitVector, bv2nat, nat2bv, bvneg, bvudiv, bvsdiv, bvand, bvor, bvnot, bvult, bitVectorOp, onNumbers, Equal, ite, Truth, testBit}
 use Rattle.btor.specs.Agreement.{disagrees, StandardAgrees, RustAgrees, WidthsAgree, TestsAgree, ChoiceAgrees, MemoriesAgree}
 use Rattle.btor.proofs.Words.{shl-far, shr-far, div-quotient, magnitude-low, magnitude-high, quot-same-low, quot-same-high, quot-low-high, quot-high-low}
 use Rattle.btor.proofs.BitVectors.{number-same, number-of, number-of-fit, number-not, number-extended, number-neg, number-add, number-sub, number-mul, number-udiv, number-urem, number-shl, number-lshr, top-bit, and-at, or-at}

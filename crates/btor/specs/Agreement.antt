@@ -5,7 +5,7 @@ use Prim.Native.Nat.{ℕ, _+_, _-_, _^_, _<_, _≤_}
 use mathlib.Core.Path.{_≡_}
 use mathlib.Core.Bool.{Bool, true, false, _&&_, _||_, not}
 use lib.Dec.{eqb}
-use Rattle.btor.specs.Operators.{Op, Add, Sub, Mul, Divu, Div, Rem, Sll, Srl, Reading, rust, standard, compute, both, either, complement, less, same, bit, extend, choose, Memory, read, write, overflow}
+use Rattle.btor.specs.Operators.{Op, Add, Sub, Mul, Divu, Div, Rem, Sll, Srl, rust, standard, compute, both, either, complement, less, same, bit, extend, choose, Memory, read, write, overflow}
 use Rattle.btor.specs.Standard.{bitVectorOp, onNumbers, onNumber, bv2nat, nat2bv, bvand, bvor, bvnot, bvult, zeroExtend, Equal, ite, Truth, testBit, IsTrue, ArraysEx}
 
 -- Div by 0, whatever the dividend; Div of the least by -1; Rem by 0 of every dividend but 2^64 - 1

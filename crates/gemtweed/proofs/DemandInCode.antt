@@ -3,7 +3,7 @@
 -- Assumes nothing.
 use Prim.Native.Nat.{ℕ}
 use mathlib.Core.Path.{_≡_, refl, sym, ap, _∙_}
-use mathlib.Core.Logic.{_≢_, inl, inr}
+use mathlib.Core.Logic.{_≢_}
 use mathlib.Core.List.{List}
 use lib.ListN.{length, replicate}
 use contract.Lifetimes.{Lfts}
@@ -49,8 +49,7 @@ module _ (entry : Entry) (call : Call) (r : GemtweedAnswer) (Q S : List ℕ) (l 
 
   false-where-dropped : (z : r .number ≡ 0) → Premises (kept z .accepted) → (α : ℕ → Value) → FaithfulTo (kept z .accepted) α
       → (b : ℕ) → Dropped (kept z .accepted .model) Q b → valueIn (kept z .accepted) α (nodeAt (kept z .accepted .model .table) b .a) ≡ number 0
-  false-where-dropped z h α f b (inl l) = kept z .keeps h α f .initial b l
-  false-where-dropped z h α f b (inr l) = kept z .keeps h α f .later b l
+  false-where-dropped z h α f = kept z .keeps h α f .dropped
 
   nothing : (o : Out Accepted) → outcome house entry call ≡ o → r .number ≢ 0 → Q ≡ replicate (call .resultRoom) 0
   unfolding left

@@ -4,7 +4,7 @@
 -- Assumes nothing.
 use Prim.Native.Nat.{ℕ, _+_, _-_, _*_, _<_, _≤_}
 use mathlib.Core.Path.{_≡_, sym, ap, _∙_, subst}
-use mathlib.Core.Logic.{_⊎_, inl, inr}
+use mathlib.Core.Logic.{_⊎_, inl, inr, ⊎-elim}
 use mathlib.Core.List.{List, _++_}
 use native.Mathlib.Omega.{arith}
 use lib.ListN.{length, getD, replicate}
@@ -102,8 +102,8 @@ module _ (m : Model) (how : Mode) (f : Folded) (wf : WellFormed m) (e : fold m h
           nodes = back .nodes;
           rows = row-kept;
           replacements = replacement-kept;
-          initial = λ b l. zero! b (lost .initial b (subst (λ bs. times b bs < times b (m .initial)) (back .initial) l));
-          later = λ b l. zero! b (lost .later b (subst (λ bs. times b bs < times b (m .later)) (back .later) l));
+          dropped = λ b. ⊎-elim (λ l. zero! b (lost .initial b (subst (λ bs. times b bs < times b (m .initial)) (back .initial) l)))
+              (λ l. zero! b (lost .later b (subst (λ bs. times b bs < times b (m .later)) (back .later) l)));
         }
 
 -- ---- a call

@@ -1,6 +1,6 @@
 -- Demand 3 of the three entry points themselves (docs/FORMAT.md, "What you may rely on"): of the words that an accepted call leaves in the result buffer.
 --     Contract          what the contracts in optimize.rt say of a call and of what it left
---     after, listIn, worthIn     a result's words read back, section by section
+--     after, listIn, worthIn     a result's words read back, section by section     Dropped    a bad state that a kept list lacks
 --     KeepsIn           what is concluded of the words        Demand3OfResult    the demand, with no premise but its own
 -- What is visited, replaced, asked or dropped follows from the rules on what a call is given, never from a result: the premises are of the rules' fold.
 -- Assumes nothing.
@@ -55,19 +55,22 @@ unfoldable pub times : ℕ → List ℕ → ℕ
 times b [] = 0
 times b (x ∷ xs) = bit (eqb b x) + times b xs
 
+-- a bad state that a kept list has fewer times than the given one
+abbrev pub Dropped : Model → List ℕ → ℕ → Type 0
+Dropped m Q b = (times b (listIn (initialOn Q)) < times b (m .initial)) ⊎ (times b (listIn (laterOn Q)) < times b (m .later))
+
 -- ---- what a number in the result stands for: a node's value in the given table, or "a constant its number"
 unfoldable pub worthIn : Reading → List Node → (ℕ → Value) → List ℕ → ℕ → Value
 worthIn how t α Q r = cond (ltb r (length t)) (value how (nodeAt t) α r) (number (getD (constantsOn Q) (2 + 2 * (r - length t)) 0))
 
 -- "every rewritten row, .. is worth what the node is worth in the given table", "every replacement is worth what its node is worth",
--- "the condition of every dropped bad state is 0": of each that the kept list has fewer times than the given one
+-- "the condition of every dropped bad state is 0"
 pub record KeepsIn (how : Reading) (m : Model) (Q : List ℕ) (α : ℕ → Value) : Type 0 where
   pub nodes : countOf Q ≡ length (m .table)
   pub rows : (k : ℕ) → k < length (m .table) → worth how (worthIn how (m .table) α Q) (α k) (nodeOf Q k) ≡ value how (nodeAt (m .table)) α k
   pub replacements : (i : ℕ) → i < countOf (replacementsOn Q)
       → worthIn how (m .table) α Q (getD (replacementsOn Q) (2 + 2 * i) 0) ≡ value how (nodeAt (m .table)) α (getD (replacementsOn Q) (1 + 2 * i) 0)
-  pub initial : (b : ℕ) → times b (listIn (initialOn Q)) < times b (m .initial) → value how (nodeAt (m .table)) α (nodeAt (m .table) b .a) ≡ number 0
-  pub later : (b : ℕ) → times b (listIn (laterOn Q)) < times b (m .later) → value how (nodeAt (m .table)) α (nodeAt (m .table) b .a) ≡ number 0
+  pub dropped : (b : ℕ) → Dropped m Q b → value how (nodeAt (m .table)) α (nodeAt (m .table) b .a) ≡ number 0
 
 -- a call that answered `Done count` is one that the rules accept, the result holds the rules' words and zeros after them, and they keep the values
 pub record Kept (entry : Entry) (call : Call) (count : ℕ) (Q : List ℕ) : Type 0 where
@@ -80,7 +83,3 @@ pub record Kept (entry : Entry) (call : Call) (count : ℕ) (Q : List ℕ) : Typ
 
 unfoldable pub Demand3OfResult : Type 0
 Demand3OfResult = (entry : Entry) (call : Call) (count : ℕ) (Q S : List ℕ) → Contract entry call (Optimized.Done count) Q S → Kept entry call count Q
-
--- an entry that a kept list has fewer times than the given one
-abbrev pub Dropped : Model → List ℕ → ℕ → Type 0
-Dropped m Q b = (times b (listIn (initialOn Q)) < times b (m .initial)) ⊎ (times b (listIn (laterOn Q)) < times b (m .later))

@@ -46,7 +46,7 @@ pub record Faithful (how : Reading) (t : List Node) (ss : List ℕ) (σ : St) (�
   pub inits : All (SameInit t (value how (nodeAt t) α)) ss
   pub same : All (Same (worthOf how t α σ)) (σ .held)
 
--- a state whose Next was not dropped and that took no input, or an Input
+-- k is no replaced state
 abbrev pub Unreplaced : List Node → List ℕ → St → ℕ → Type 0
 Unreplaced t ss σ k = All (λ s. trivial t (nodeAt t s) ≡ true → nodeAt t s .a ≢ k) ss × All (λ h. h .state ≢ k) (σ .held)
 

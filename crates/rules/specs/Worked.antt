@@ -46,7 +46,7 @@ replacedCall =
       replies = 0 ∷ 0 ∷ 1 ∷ 1 ∷ 1 ∷ 0 ∷ 1 ∷ 0 ∷ 1 ∷ [];
     })
 
--- what takes which constant, and what is asked, with the replies of no
+-- what takes which constant, and what is asked, with its reply
 abbrev pub replacedHeld : List Held
 replacedHeld = record { state = 3; by = 16 } ∷ []
 
@@ -71,21 +71,19 @@ unfoldable pub ReplacedWorked : Type 0
 ReplacedWorked = OfAccepted Replaced (outcome house impl replacedCall)
 
 -- ---- 0 an Input, 1 a zero, 2 its sum with itself, 3 whether 0 is below 2, 4 whether 0 is below itself, 5 and 6 Bads: neither can be 1
+abbrev pub severalRows : List Row
+severalRows = row 21 2 0 0 0 1 ∷ row 1 2 0 0 0 0 ∷ row 4 2 1 1 0 0 ∷ row 12 1 0 2 0 0 ∷ row 12 1 0 0 0 0 ∷ row 22 1 3 0 0 0 ∷ row 22 1 4 0 0 0 ∷ []
+
 abbrev pub severalCall : Call
-severalCall =
-    callOf 4 (record {
-      rows = row 21 2 0 0 0 1 ∷ row 1 2 0 0 0 0 ∷ row 4 2 1 1 0 0 ∷ row 12 1 0 2 0 0 ∷ row 12 1 0 0 0 0 ∷ row 22 1 3 0 0 0 ∷ row 22 1 4 0 0 0 ∷ [];
-      sequentials = [];
-      initial = 5 ∷ 6 ∷ [];
-      later = [];
-      inputs = [];
-      replies = 1 ∷ [];
-    })
+severalCall = callOf 4 (record { rows = severalRows; sequentials = []; initial = 5 ∷ 6 ∷ []; later = []; inputs = []; replies = 1 ∷ [] })
+
+abbrev pub severalAsked : List Question
+severalAsked = question several 2 0 (5 ∷ 6 ∷ []) 1 ∷ []
 
 -- the reply says of each bad that it is 0
 pub record Several (a : Accepted) : Type 0 where
   pub initial : a .folded .initial ≡ 5 ∷ 6 ∷ []
-  pub asked : a .folded .state .asked ≡ question several 2 0 (5 ∷ 6 ∷ []) 1 ∷ []
+  pub asked : a .folded .state .asked ≡ severalAsked
   pub verdict : a .folded .verdict ≡ 2
   pub says : (α : ℕ → Value) → HoldIn a α → (valueIn a α 5 ≡ number 0) × (valueIn a α 6 ≡ number 0)
   pub premises : Premises a
