@@ -10,7 +10,7 @@ pub const STACK_PER_NODE: usize = 1024;
 /// The stack given besides, in bytes.
 pub const STACK_BASE: usize = 65536;
 
-/// The stack, in bytes, that a fold of these words is given: some five times what was measured. A table of more nodes than its limit is refused before any is visited.
+/// The stack, in bytes, that a fold of these words is given. A table of more nodes than its limit is refused before any is visited.
 pub fn stack_for(words: &[u64]) -> usize {
     let nodes = words.first().map_or(0, |count| (*count).min(MOST_NODES as u64));
     STACK_BASE + STACK_PER_NODE * nodes as usize

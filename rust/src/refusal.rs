@@ -159,7 +159,10 @@ impl fmt::Display for Refusal {
             Refusal::OperandNotBefore { .. } => {
                 write!(f, "node {place}: operand not before its node")
             }
-            Refusal::Sorts { .. } => write!(f, "node {place}: its sorts do not fit, its number is too wide, or an operand is a Next, a Bad or no State"),
+            Refusal::Sorts { .. } => write!(
+                f,
+                "node {place}: its sorts do not fit, its number is too wide, or an operand is a Next, a Bad or no State"
+            ),
             Refusal::Entry { section: 2, .. } => {
                 write!(f, "{named}, entry {place}: not a Next whose state has an init")
             }
