@@ -9,6 +9,7 @@ import sys
 
 LINES = [("rust", "#b5651d", "published Rust"), ("gemtweed", "#1f6f8b", "Gemtweed"), ("floor", "#888888", "floor")]
 PANEL, HEIGHT, LEFT, TOP, GAP = 200, 150, 64, 48, 60
+ACROSS = 4  # panels side by side
 
 
 def read(path):
@@ -54,14 +55,14 @@ def panel(x, y, name, rows, low, high):
 def draw(shapes):
     times = [time for rows in shapes.values() for _, row in rows for time in row.values()]
     low, high = 10 ** math.floor(math.log10(min(times))), 10 ** math.ceil(math.log10(max(times)))
-    width = LEFT + 3 * (PANEL + GAP)
-    height = TOP + 2 * (HEIGHT + GAP)
+    width = LEFT + ACROSS * (PANEL + GAP)
+    height = TOP + math.ceil(len(shapes) / ACROSS) * (HEIGHT + GAP)
     out = [f'<svg xmlns="http://www.w3.org/2000/svg" width="{width}" height="{height}" font-family="sans-serif">', f'<rect width="{width}" height="{height}" fill="white"/>']
     for k, (_, colour, label) in enumerate(LINES):
         out.append(f'<line x1="{LEFT + 160 * k}" x2="{LEFT + 160 * k + 24}" y1="14" y2="14" stroke="{colour}" stroke-width="2"/>')
         out.append(text(LEFT + 160 * k + 30, 18, label, "start"))
     for k, (name, rows) in enumerate(shapes.items()):
-        out += panel(LEFT + k % 3 * (PANEL + GAP), TOP + k // 3 * (HEIGHT + GAP), name, rows, low, high)
+        out += panel(LEFT + k % ACROSS * (PANEL + GAP), TOP + k // ACROSS * (HEIGHT + GAP), name, rows, low, high)
     return "\n".join(out + ["</svg>"]) + "\n"
 
 

@@ -1,10 +1,11 @@
-// The measured models: six shapes, each of exactly the number of nodes asked for, a power of two from 64 on.
+// The measured models: seven shapes, each of exactly the number of nodes asked for, a power of two from 64 on.
 
 use crate::table::*;
 
-pub const SHAPES: [(&str, fn(u64) -> Table); 6] = [
+pub const SHAPES: [(&str, fn(u64) -> Table); 7] = [
     ("deep chain", deep_chain),
-    ("wide tree", wide_tree),
+    ("wide tree", |nodes| tree(ADD, nodes)),
+    ("product tree", |nodes| tree(MUL, nodes)),
     ("write chain", write_chain),
     ("states and inputs", states_and_inputs),
     ("questions", questions),
@@ -56,16 +57,16 @@ fn deep_chain(nodes: u64) -> Table {
     table
 }
 
-// Adds of two nodes each over half as many constants: everything folds.
-fn wide_tree(nodes: u64) -> Table {
+// An operator of two nodes each over half as many constants, all odd, so that no product is 0: everything folds.
+fn tree(kind: u64, nodes: u64) -> Table {
     let mut table = named();
     let leaves = nodes / 2 - 1;
     for leaf in 0..=leaves {
-        table.constant(leaf);
+        table.constant(2 * leaf + 1);
     }
     let mut next = 1;
     for _ in 1..leaves {
-        table.two(ADD, next, next + 1);
+        table.two(kind, next, next + 1);
         next += 2;
     }
     table.bad_if_below(next, 0);
