@@ -1,40 +1,45 @@
--- Laws of the operators on words: products by halves, shifts past the width, signed division by magnitudes, complements; and that each result is a word.
+-- Laws of the operators on words: products by pieces of 16 bits, shifts past the width, signed division by magnitudes, complements; and that each result is a word.
 -- Assumes nothing.
 use Prim.Native.Nat.{ℕ, zero, suc, _+_, _-_, _*_, _/_, _%_, _^_, _≤_, _<_}
 use mathlib.Core.Path.{_≡_, refl, sym, ap, ap₂, _∙_, subst}
 use mathlib.Core.Bool.{Bool, true, false, cond, _&&_, Bool·beq}
 use native.Mathlib.Omega.{arith}
-use native.Mathlib.Nat.{add-assoc, add-comm, add-left-comm, mul-assoc, mul-comm, mul-left-comm, mul-add, add-mul, div-add-mod', mul-mod-left, mod-lt, div-eq-of-lt, lt-of-lt-of-le, mul-le-mul, div-le-self}
+use native.Mathlib.Nat.{add-assoc, add-comm, add-left-comm, mul-assoc, mul-comm, mul-left-comm, mul-add, add-mul, div-add-mod', mul-mod-left, mod-lt, mod-eq-of-lt, div-eq-of-lt, lt-of-lt-of-le, lt-of-le-of-lt, le-of-lt, mul-le-mul-left, mul-lt-mul-of-pos-right, div-le-self}
 use lib.Bits.{bitAnd, and-mask}
-use lib.Pow.{pow-add, pow-mono, pow-pos, shr-lt, low}
+use lib.Pow.{pow-add, pow-mono, pow-pos, shr-lt, low, mod-pow-add}
 use lib.Dec.{eqb, ltb}
 use lib.IntN.{ℤ, pos, negsuc, negℤ}
 use lib.Signed.{quotZ}
 use borrow.Author.Tests.{ne-eqb, eq-eqb, lt-ltb, le-ltb, ltb-true, ltb-false, eqb-true, eqb-false}
 use Rattle.btor.specs.Operators.{signed, word, magnitude, complement, Reading, Div, compute, signedDiv, overflow}
 
--- a product of two 32-bit numbers fits 64 bits
-pub halves-fit : (x y : ℕ) → x ≤ 4294967295 → y ≤ 4294967295 → x * y < 2 ^ 64
-halves-fit x y hx hy = omega (arith, mul-le-mul hx hy)
+-- a product of two numbers of w bits fits twice as many
+pub product-fits : (w : ℕ) {x y : ℕ} → x < 2 ^ w → y < 2 ^ w → x * y < 2 ^ (w + w)
+product-fits w {x} {y} hx hy = rw (pow-add 2 w w) (lt-of-le-of-lt (mul-le-mul-left x (le-of-lt hy)) (mul-lt-mul-of-pos-right hx (pow-pos w)))
 
-expand : (P a₀ a₁ b₀ b₁ : ℕ) → (a₁ * P + a₀) * (b₁ * P + b₀) ≡ a₁ * b₁ * (P * P) + (a₁ * b₀ + a₀ * b₁) * P + a₀ * b₀
-expand P a₀ a₁ b₀ b₁ = simp (mul-add, add-mul, mul-assoc, mul-comm, mul-left-comm, add-assoc, add-comm, add-left-comm) refl
+-- a product of two numbers of 2w bits by the halves of each
+by-halves : (w a b : ℕ)
+    → a % 2 ^ (w + w) * (b % 2 ^ (w + w))
+    ≡ a / 2 ^ w % 2 ^ w * (b / 2 ^ w % 2 ^ w) * (2 ^ w * 2 ^ w) + (a % 2 ^ w * (b % 2 ^ w) + (a / 2 ^ w % 2 ^ w * (b % 2 ^ w) + a % 2 ^ w * (b / 2 ^ w % 2 ^ w)) * 2 ^ w)
+by-halves w a b = rw (mod-pow-add a w w, mod-pow-add b w w) (simp (mul-add, add-mul, mul-assoc, mul-comm, mul-left-comm, add-assoc, add-comm, add-left-comm) refl)
 
-columns : (p q x : ℕ) → (q + x % 2 ^ 64 % 2 ^ 32 * 2 ^ 32) % 2 ^ 64 ≡ (p * (2 ^ 32 * 2 ^ 32) + x * 2 ^ 32 + q) % 2 ^ 64
-columns p q x = omega arith
+-- columns 0 and 1 of a product by pieces of 16 bits
+abbrev columns : ℕ → ℕ → ℕ
+columns a b = a % 2 ^ 16 * (b % 2 ^ 16) + (a / 2 ^ 16 % 2 ^ 16 * (b % 2 ^ 16) + a % 2 ^ 16 * (b / 2 ^ 16 % 2 ^ 16)) * 2 ^ 16
 
--- a product modulo 2^64 by the halves of its factors
-pub product-by-halves : (a b : ℕ)
-    → (a % 2 ^ 32 * (b % 2 ^ 32) + (a / 2 ^ 32 * (b % 2 ^ 32) + a % 2 ^ 32 * (b / 2 ^ 32)) % 2 ^ 64 % 2 ^ 32 * 2 ^ 32) % 2 ^ 64 ≡ a * b % 2 ^ 64
-product-by-halves a b =
-    columns (a / 2 ^ 32 * (b / 2 ^ 32)) (a % 2 ^ 32 * (b % 2 ^ 32)) (a / 2 ^ 32 * (b % 2 ^ 32) + a % 2 ^ 32 * (b / 2 ^ 32))
-    ∙ ap (λ (n : ℕ). n % 2 ^ 64)
-    (sym (expand (2 ^ 32) (a % 2 ^ 32) (a / 2 ^ 32) (b % 2 ^ 32) (b / 2 ^ 32))
-    ∙ ap₂ (λ (x y : ℕ). x * y) (div-add-mod' a (2 ^ 32)) (div-add-mod' b (2 ^ 32)))
+-- what stands at 2^64 and above is lost, at each sum and at the move of columns 2 and 3 to their place
+wrapped : {n x y z : ℕ} (p u u₁ u₂ l l₁ l₂ : ℕ) → n ≡ p * (2 ^ 32 * 2 ^ 32) + (z + (x + y) * 2 ^ 32)
+    → z ≡ u * (2 ^ 16 * 2 ^ 16) + l → x ≡ u₁ * (2 ^ 16 * 2 ^ 16) + l₁ → y ≡ u₂ * (2 ^ 16 * 2 ^ 16) + l₂
+    → (((u + l₁) % 2 ^ 64 + l₂) % 2 ^ 64 * 2 ^ 32 % 2 ^ 64 + l) % 2 ^ 64 ≡ n % 2 ^ 64
+wrapped p u u₁ u₂ l l₁ l₂ en ez ex ey = rw (en, ez, ex, ey) (omega arith)
 
--- the upper half of a word is its own lower half
-pub high-half : (a : ℕ) → a < 2 ^ 64 → a / 2 ^ 32 % 2 ^ 32 ≡ a / 2 ^ 32
-high-half a h = omega arith
+-- a product modulo 2^64 by columns 0 to 3
+pub product-by-pieces : {a b : ℕ} → a < 2 ^ 64 → b < 2 ^ 64
+    → (((a / 2 ^ 16 % 2 ^ 16 * (b / 2 ^ 16 % 2 ^ 16) + columns (a / 2 ^ 32) b) % 2 ^ 64 + columns a (b / 2 ^ 32)) % 2 ^ 64 * 2 ^ 32 % 2 ^ 64 + columns a b) % 2 ^ 64
+    ≡ a * b % 2 ^ 64
+product-by-pieces {a} {b} ha hb =
+    wrapped _ _ _ _ _ _ _ (by-halves 32 a b) (by-halves 16 a b) (by-halves 16 (a / 2 ^ 32) b) (by-halves 16 a (b / 2 ^ 32))
+    ∙ rw (mod-eq-of-lt ha, mod-eq-of-lt hb)
 
 -- a shift by the width or more leaves nothing, at each width w
 pub shl-far : (w a k : ℕ) → w ≤ k → a * 2 ^ k % 2 ^ w ≡ 0

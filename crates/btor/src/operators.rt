@@ -1,13 +1,13 @@
 // The operators of BTOR2 on numbers of at most 64 bits, as optimize.rs folds them.
 use crate::node_type::NodeType;
 ghost use mathlib.Core.Path.{_≡_};
-ghost use Prim.Native.Nat.{_-_, _*_, _%_, _^_};
+ghost use Prim.Native.Nat.{_+_, _-_, _*_, _/_, _%_, _^_};
 ghost use Rattle.btor.specs.Operators.{Op, Reading, compute, both, either, complement, less, same, extend, magnitude, overflow};
 ghost use Rattle.btor.specs.Sorts.{widthOf};
 
 const HALF: u64 = 9223372036854775808;
 
-const LOW: u64 = 4294967296;
+const PIECE: u64 = 65536;
 
 // The sum modulo 2^64.
 pub fn wrapping_add(left: u64, right: u64) -> u64
@@ -23,24 +23,35 @@ pub fn wrapping_sub(left: u64, right: u64) -> u64
     std::num::wrapping_sub_u64(left, right)
 }
 
-// The product of the lower halves of two words.
-fn low_product(left: u64, right: u64) -> u64
-    ensures { λ r. ⌜ r ≡ left % 2 ^ 32 * (right % 2 ^ 32) ⌝ }
+// The product of two numbers of 16 bits, in 32: the only multiplication here.
+fn piece(left: u16, right: u16) -> u32
+    ensures { λ r. ⌜ r ≡ left * right ⌝ }
 {
-    left % LOW * (right % LOW)
+    left as u32 * right as u32
 }
 
-// The product modulo 2^64, by halves: no product or sum here overflows.
+// The product of the lowest pieces of two words. A piece has 16 bits.
+fn low_piece(left: u64, right: u64) -> u32
+    ensures { λ r. ⌜ r ≡ left % 2 ^ 16 * (right % 2 ^ 16) ⌝ }
+{
+    piece((left % PIECE) as u16, (right % PIECE) as u16)
+}
+
+// A sum and columns 0 and 1 of a product, modulo 2^64: pieces i and j meet in column i + j.
+fn add_columns(sum: u64, left: u64, right: u64) -> u64
+    ensures { λ r. ⌜ r ≡ (sum + (left % 2 ^ 16 * (right % 2 ^ 16) + (left / 2 ^ 16 % 2 ^ 16 * (right % 2 ^ 16) + left % 2 ^ 16 * (right / 2 ^ 16 % 2 ^ 16)) * 2 ^ 16)) % 2 ^ 64 ⌝ }
+{
+    let cross = low_piece(left >> 16, right) as u64 + low_piece(left, right >> 16) as u64;
+    std::num::wrapping_add_u64(sum, low_piece(left, right) as u64 + (cross << 16))
+}
+
+// The product modulo 2^64: columns 0 to 3, ten products of pieces.
 pub fn wrapping_mul(left: u64, right: u64) -> u64
     ensures { λ r. ⌜ r ≡ compute Reading.rust Op.Mul left right ⌝ }
 {
-    let left_high = left / LOW;
-    let right_high = right / LOW;
-    let cross = std::num::wrapping_add_u64(
-        low_product(left_high, right),
-        low_product(left, right_high),
-    );
-    std::num::wrapping_add_u64(low_product(left, right), cross % LOW * LOW)
+    let middle = low_piece(left >> 16, right >> 16) as u64;
+    let high = add_columns(add_columns(middle, left >> 32, right), left, right >> 32);
+    add_columns(high << 32, left, right)
 }
 
 // How far a word, read as a signed number, is from zero.
