@@ -1,21 +1,17 @@
--- Laws of the operators on words: products by pieces of 16 bits, shifts past the width, signed division by magnitudes, complements; and that each result is a word.
+-- Laws of the operators on words: products by pieces of 16 bits, shifts past the width, signed division by magnitudes, complements.
 -- Assumes nothing.
 use Prim.Native.Nat.{ℕ, zero, suc, _+_, _-_, _*_, _/_, _%_, _^_, _≤_, _<_}
-use mathlib.Core.Path.{_≡_, refl, sym, ap, ap₂, _∙_, subst}
-use mathlib.Core.Bool.{Bool, true, false, cond, _&&_, Bool·beq}
+use mathlib.Core.Path.{_≡_, refl, sym, ap, _∙_, subst}
+use mathlib.Core.Bool.{Bool, true, false, cond}
 use native.Mathlib.Omega.{arith}
-use native.Mathlib.Nat.{add-assoc, add-comm, add-left-comm, mul-assoc, mul-comm, mul-left-comm, mul-add, add-mul, div-add-mod', mul-mod-left, mod-lt, mod-eq-of-lt, div-eq-of-lt, lt-of-lt-of-le, lt-of-le-of-lt, le-of-lt, mul-le-mul-left, mul-lt-mul-of-pos-right, div-le-self}
+use native.Mathlib.Nat.{add-assoc, add-comm, add-left-comm, mul-assoc, mul-comm, mul-left-comm, mul-add, add-mul, div-add-mod', mul-mod-left, mod-lt, mod-eq-of-lt, div-eq-of-lt, lt-of-lt-of-le, div-le-self}
 use lib.Bits.{bitAnd, and-mask}
 use lib.Pow.{pow-add, pow-mono, pow-pos, shr-lt, low, mod-pow-add}
-use lib.Dec.{eqb, ltb}
-use lib.IntN.{ℤ, pos, negsuc, negℤ}
+use lib.Dec.{ltb}
+use lib.IntN.{pos, negsuc, negℤ}
 use lib.Signed.{quotZ}
-use borrow.Author.Tests.{ne-eqb, eq-eqb, lt-ltb, le-ltb, ltb-true, ltb-false, eqb-true, eqb-false}
+use borrow.Author.Tests.{ne-eqb, lt-ltb, le-ltb}
 use Rattle.btor.specs.Operators.{signed, word, magnitude, complement, Reading, Div, compute, signedDiv, overflow}
-
--- a product of two numbers of w bits fits twice as many
-pub product-fits : (w : ℕ) {x y : ℕ} → x < 2 ^ w → y < 2 ^ w → x * y < 2 ^ (w + w)
-product-fits w {x} {y} hx hy = rw (pow-add 2 w w) (lt-of-le-of-lt (mul-le-mul-left x (le-of-lt hy)) (mul-lt-mul-of-pos-right hx (pow-pos w)))
 
 -- a product of two numbers of 2w bits by the halves of each
 by-halves : (w a b : ℕ)
