@@ -57,7 +57,7 @@ fn deep_chain(nodes: u64) -> Table {
     table
 }
 
-// An operator of two nodes each over half as many constants, all odd, so that no product is 0: everything folds.
+// A tree of one operator over constants, half of the nodes and all odd, so that no product is 0: everything folds.
 fn tree(kind: u64, nodes: u64) -> Table {
     let mut table = named();
     let leaves = nodes / 2 - 1;

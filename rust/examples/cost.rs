@@ -47,7 +47,7 @@ fn wide_tree(nodes: u64) -> Table {
     let mut table = Table::default();
     let leaves = nodes / 2 - 1;
     for leaf in 0..=leaves {
-        table.add(number(leaf));
+        table.add(number(2 * leaf + 1));
     }
     for pair in 1..leaves {
         table.add(Node::Add { left: NodeId(2 * pair - 1), right: NodeId(2 * pair) });

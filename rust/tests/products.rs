@@ -1,13 +1,13 @@
-// Folded products against the machine's own: every pair of words whose 16-bit pieces are at their limits.
+// Folded products against the machine's own: every pair of words whose 16-bit limbs are at or beside their limits.
 
 use gemtweed::{Mode, Node, NodeId, Sort, Table};
 
-const PIECES: [u64; 4] = [0, 1, 0x8000, 0xffff];
+const LIMBS: [u64; 4] = [0, 1, 0x8000, 0xffff];
 
 fn words() -> Vec<u64> {
     let mut words = vec![0];
     for _ in 0..4 {
-        words = words.iter().flat_map(|word| PIECES.map(|piece| word << 16 | piece)).collect();
+        words = words.iter().flat_map(|word| LIMBS.map(|limb| word << 16 | limb)).collect();
     }
     words
 }
@@ -38,7 +38,7 @@ fn wrong(left: u64, rights: &[u64], expected: fn(u64, u64) -> u64) -> usize {
 }
 
 #[test]
-fn pieces_at_their_limits() {
+fn limbs_at_their_limits() {
     let words = words();
     assert_eq!(words.len(), 256);
     for &left in &words {

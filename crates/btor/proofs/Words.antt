@@ -1,4 +1,4 @@
--- Laws of the operators on words: products by pieces of 16 bits, shifts past the width, signed division by magnitudes, complements.
+-- Laws of the operators on words: products of 16-bit limbs, shifts past the width, signed division by magnitudes, complements.
 -- Assumes nothing.
 use Prim.Native.Nat.{ℕ, zero, suc, _+_, _-_, _*_, _/_, _%_, _^_, _≤_, _<_}
 use mathlib.Core.Path.{_≡_, refl, sym, ap, _∙_, subst}
@@ -13,28 +13,26 @@ use lib.Signed.{quotZ}
 use borrow.Author.Tests.{ne-eqb, lt-ltb, le-ltb}
 use Rattle.btor.specs.Operators.{signed, word, magnitude, complement, Reading, Div, compute, signedDiv, overflow}
 
--- a product of two numbers of 2w bits by the halves of each
-by-halves : (w a b : ℕ)
-    → a % 2 ^ (w + w) * (b % 2 ^ (w + w))
-    ≡ a / 2 ^ w % 2 ^ w * (b / 2 ^ w % 2 ^ w) * (2 ^ w * 2 ^ w) + (a % 2 ^ w * (b % 2 ^ w) + (a / 2 ^ w % 2 ^ w * (b % 2 ^ w) + a % 2 ^ w * (b / 2 ^ w % 2 ^ w)) * 2 ^ w)
-by-halves w a b = rw (mod-pow-add a w w, mod-pow-add b w w) (simp (mul-add, add-mul, mul-assoc, mul-comm, mul-left-comm, add-assoc, add-comm, add-left-comm) refl)
+-- columns 0 and 1 of a product by limbs of w bits
+abbrev columns : ℕ → ℕ → ℕ → ℕ
+columns w a b = a % 2 ^ w * (b % 2 ^ w) + (a / 2 ^ w % 2 ^ w * (b % 2 ^ w) + a % 2 ^ w * (b / 2 ^ w % 2 ^ w)) * 2 ^ w
 
--- columns 0 and 1 of a product by pieces of 16 bits
-abbrev columns : ℕ → ℕ → ℕ
-columns a b = a % 2 ^ 16 * (b % 2 ^ 16) + (a / 2 ^ 16 % 2 ^ 16 * (b % 2 ^ 16) + a % 2 ^ 16 * (b / 2 ^ 16 % 2 ^ 16)) * 2 ^ 16
+-- the product of the lowest two limbs of two numbers
+two-limbs : (w a b : ℕ) → a % 2 ^ (w + w) * (b % 2 ^ (w + w)) ≡ a / 2 ^ w % 2 ^ w * (b / 2 ^ w % 2 ^ w) * (2 ^ w * 2 ^ w) + columns w a b
+two-limbs w a b = rw (mod-pow-add a w w, mod-pow-add b w w) (simp (mul-add, add-mul, mul-assoc, mul-comm, mul-left-comm, add-assoc, add-comm, add-left-comm) refl)
 
--- what stands at 2^64 and above is lost, at each sum and at the move of columns 2 and 3 to their place
+-- that each sum, and the move of columns 2 and 3 to their place, is taken modulo 2^64 changes nothing modulo 2^64
 wrapped : {n x y z : ℕ} (p u u₁ u₂ l l₁ l₂ : ℕ) → n ≡ p * (2 ^ 32 * 2 ^ 32) + (z + (x + y) * 2 ^ 32)
     → z ≡ u * (2 ^ 16 * 2 ^ 16) + l → x ≡ u₁ * (2 ^ 16 * 2 ^ 16) + l₁ → y ≡ u₂ * (2 ^ 16 * 2 ^ 16) + l₂
     → (((u + l₁) % 2 ^ 64 + l₂) % 2 ^ 64 * 2 ^ 32 % 2 ^ 64 + l) % 2 ^ 64 ≡ n % 2 ^ 64
 wrapped p u u₁ u₂ l l₁ l₂ en ez ex ey = rw (en, ez, ex, ey) (omega arith)
 
--- a product modulo 2^64 by columns 0 to 3
+-- a product modulo 2^64 by columns 0 to 3 of its 16-bit limbs
 pub product-by-pieces : {a b : ℕ} → a < 2 ^ 64 → b < 2 ^ 64
-    → (((a / 2 ^ 16 % 2 ^ 16 * (b / 2 ^ 16 % 2 ^ 16) + columns (a / 2 ^ 32) b) % 2 ^ 64 + columns a (b / 2 ^ 32)) % 2 ^ 64 * 2 ^ 32 % 2 ^ 64 + columns a b) % 2 ^ 64
+    → (((a / 2 ^ 16 % 2 ^ 16 * (b / 2 ^ 16 % 2 ^ 16) + columns 16 (a / 2 ^ 32) b) % 2 ^ 64 + columns 16 a (b / 2 ^ 32)) % 2 ^ 64 * 2 ^ 32 % 2 ^ 64 + columns 16 a b) % 2 ^ 64
     ≡ a * b % 2 ^ 64
 product-by-pieces {a} {b} ha hb =
-    wrapped _ _ _ _ _ _ _ (by-halves 32 a b) (by-halves 16 a b) (by-halves 16 (a / 2 ^ 32) b) (by-halves 16 a (b / 2 ^ 32))
+    wrapped _ _ _ _ _ _ _ (two-limbs 32 a b) (two-limbs 16 a b) (two-limbs 16 (a / 2 ^ 32) b) (two-limbs 16 a (b / 2 ^ 32))
     ∙ rw (mod-eq-of-lt ha, mod-eq-of-lt hb)
 
 -- a shift by the width or more leaves nothing, at each width w

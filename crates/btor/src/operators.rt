@@ -7,7 +7,7 @@ ghost use Rattle.btor.specs.Sorts.{widthOf};
 
 const HALF: u64 = 9223372036854775808;
 
-const PIECE: u64 = 65536;
+const LIMB: u64 = 65536;
 
 // The sum modulo 2^64.
 pub fn wrapping_add(left: u64, right: u64) -> u64
@@ -30,14 +30,14 @@ fn piece(left: u16, right: u16) -> u32
     left as u32 * right as u32
 }
 
-// The product of the lowest pieces of two words. A piece has 16 bits.
+// The product of the lowest limbs of two words. A limb has 16 bits.
 fn low_piece(left: u64, right: u64) -> u32
     ensures { λ r. ⌜ r ≡ left % 2 ^ 16 * (right % 2 ^ 16) ⌝ }
 {
-    piece((left % PIECE) as u16, (right % PIECE) as u16)
+    piece((left % LIMB) as u16, (right % LIMB) as u16)
 }
 
-// A sum and columns 0 and 1 of a product, modulo 2^64: pieces i and j meet in column i + j.
+// A sum and columns 0 and 1 of a product, modulo 2^64: limbs i and j meet in column i + j.
 fn add_columns(sum: u64, left: u64, right: u64) -> u64
     ensures { λ r. ⌜ r ≡ (sum + (left % 2 ^ 16 * (right % 2 ^ 16) + (left / 2 ^ 16 % 2 ^ 16 * (right % 2 ^ 16) + left % 2 ^ 16 * (right / 2 ^ 16 % 2 ^ 16)) * 2 ^ 16)) % 2 ^ 64 ⌝ }
 {
@@ -45,7 +45,7 @@ fn add_columns(sum: u64, left: u64, right: u64) -> u64
     std::num::wrapping_add_u64(sum, low_piece(left, right) as u64 + (cross << 16))
 }
 
-// The product modulo 2^64: columns 0 to 3, ten products of pieces.
+// The product modulo 2^64: columns 0 to 3, ten pieces.
 pub fn wrapping_mul(left: u64, right: u64) -> u64
     ensures { λ r. ⌜ r ≡ compute Reading.rust Op.Mul left right ⌝ }
 {

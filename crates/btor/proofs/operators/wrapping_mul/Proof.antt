@@ -1,4 +1,4 @@
--- `wrapping_mul` is the product modulo 2^64: `product-by-pieces` adds up the products of the pieces.
+-- `wrapping_mul` is the product modulo 2^64: `product-by-pieces` adds up the ten pieces.
 -- Assumes nothing.
 use mathlib.Core.Path.{_≡_, _∙_}
 use borrow.Author.Needs.{needs}
