@@ -12,7 +12,7 @@ use lib.Dec.{ltb, eqb, lit<}
 use lib.Bits.{and-lt, or-lt}
 use lib.Signed.{quotZ}
 use borrow.Author.Tests.{eqb-true, eqb-false, eq-eqb, ne-eqb, ltb-true, ltb-false}
-use Rattle.btor.specs.Operators.{Op, Add, Sub, Mul, Divu, Div, Rem, Sll, Srl, rust, standard, compute, signedDiv, signed, word, overflow, complement, bit, divByZero, leastByMinusOne}
+use Rattle.btor.specs.Operators.{Op, Add, Sub, Mul, Divu, Div, Rem, Sll, Srl, Reading, rust, standard, compute, signedDiv, signed, word, overflow, complement, bit, divByZero, leastByMinusOne}
 use Rattle.btor.specs.Standard.{BitVector, bv2nat, nat2bv, bvneg, bvudiv, bvsdiv, bvand, bvor, bvnot, bvult, bitVectorOp, onNumbers, Equal, ite, Truth, testBit}
 use Rattle.btor.specs.Agreement.{disagrees, StandardAgrees, RustAgrees, WidthsAgree, TestsAgree, ChoiceAgrees, MemoriesAgree}
 use Rattle.btor.proofs.Words.{shl-far, shr-far, div-quotient, magnitude-low, magnitude-high, quot-same-low, quot-same-high, quot-low-high, quot-high-low}
@@ -25,7 +25,7 @@ cases P false f g = g refl
 
 -- ---- And, Or, Not, Ult, Eq, Ext, at each width
 module _ (w : ℕ) where
-  equal-numbers : (x y : ℕ) → x < 2 ^ w → y < 2 ^ w → Equal w (nat2bv x) (nat2bv y) → x ≡ y
+  pub equal-numbers : (x y : ℕ) → x < 2 ^ w → y < 2 ^ w → Equal w (nat2bv x) (nat2bv y) → x ≡ y
   equal-numbers x y hx hy h = sym (number-of-fit w x hx) ∙ number-same w (nat2bv x) (nat2bv y) h ∙ number-of-fit w y hy
 
   not-agrees : (x : ℕ) → x < 2 ^ w → complement w x ≡ bv2nat w (bvnot (nat2bv x))
@@ -201,6 +201,15 @@ div-agrees x y hx hy = go (eqb y 0) refl (overflow x y) refl
         (subst (λ (j : ℕ). compute standard Div (2 ^ 63) j ≡ sdiv (ltb (2 ^ 63) (2 ^ 63)) (ltb j (2 ^ 63)) (2 ^ 63) j) (sym (eqb-true y (2 ^ 64 - 1) (e .1))) sdiv-least)
     go false p false q = sdiv-quotient x y hx hy (eqb-false y 0 p) q
 
+-- ---- shifts, at each distance
+pub sll-is : (how : Reading) (x y : ℕ) → compute how Sll x y ≡ x * 2 ^ y % 2 ^ 64
+unfolding compute
+sll-is how x y = cases (λ (r : ℕ). r ≡ x * 2 ^ y % 2 ^ 64) (ltb y 64) (λ _. refl) (λ e. sym (shl-far 64 x y (ltb-false y 64 e)))
+
+pub srl-is : (how : Reading) (x y : ℕ) → x < 2 ^ 64 → compute how Srl x y ≡ x / 2 ^ y
+unfolding compute
+srl-is how x y h = cases (λ (r : ℕ). r ≡ x / 2 ^ y) (ltb y 64) (λ _. refl) (λ e. sym (shr-far 64 x y h (ltb-false y 64 e)))
+
 -- ---- the eight operators in the standard's reading
 module _ (x y : ℕ) (hx : x < 2 ^ 64) (hy : y < 2 ^ 64) where
   fit-x : bv2nat 64 (nat2bv x) ≡ x
@@ -212,14 +221,6 @@ module _ (x y : ℕ) (hx : x < 2 ^ 64) (hy : y < 2 ^ 64) where
   below-x : bv2nat 64 (nat2bv x) < 2 ^ 64
   below-x = subst (λ (k : ℕ). k < 2 ^ 64) (sym fit-x) hx
 
-  sll-agrees : compute standard Sll x y ≡ x * 2 ^ y % 2 ^ 64
-  unfolding compute
-  sll-agrees = cases (λ (r : ℕ). r ≡ x * 2 ^ y % 2 ^ 64) (ltb y 64) (λ _. refl) (λ e. sym (shl-far 64 x y (ltb-false y 64 e)))
-
-  srl-agrees : compute standard Srl x y ≡ x / 2 ^ y
-  unfolding compute
-  srl-agrees = cases (λ (r : ℕ). r ≡ x / 2 ^ y) (ltb y 64) (λ _. refl) (λ e. sym (shr-far 64 x y hx (ltb-false y 64 e)))
-
   op-agrees : (op : Op) → compute standard op x y ≡ onNumbers 64 (bitVectorOp 64 op) x y
   unfolding compute
   op-agrees Add = sym (number-add 64 (nat2bv x) (nat2bv y) ∙ ap₂ (λ (a b : ℕ). (a + b) % 2 ^ 64) fit-x fit-y)
@@ -228,8 +229,8 @@ module _ (x y : ℕ) (hx : x < 2 ^ 64) (hy : y < 2 ^ 64) where
   op-agrees Divu = sym (number-udiv-64 (nat2bv x) (nat2bv y) x y fit-x fit-y hx)
   op-agrees Div = div-agrees x y hx hy ∙ sym (sdiv-number x y hx hy)
   op-agrees Rem = sym (number-urem 64 (nat2bv x) (nat2bv y) below-x ∙ ap₂ (λ (a b : ℕ). cond (eqb b 0) a (a % b)) fit-x fit-y)
-  op-agrees Sll = sll-agrees ∙ sym (number-shl 64 (nat2bv x) (nat2bv y) ∙ ap₂ (λ (a b : ℕ). a * 2 ^ b % 2 ^ 64) fit-x fit-y)
-  op-agrees Srl = srl-agrees ∙ sym (number-lshr 64 (nat2bv x) (nat2bv y) below-x ∙ ap₂ (λ (a b : ℕ). a / 2 ^ b) fit-x fit-y)
+  op-agrees Sll = sll-is standard x y ∙ sym (number-shl 64 (nat2bv x) (nat2bv y) ∙ ap₂ (λ (a b : ℕ). a * 2 ^ b % 2 ^ 64) fit-x fit-y)
+  op-agrees Srl = srl-is standard x y hx ∙ sym (number-lshr 64 (nat2bv x) (nat2bv y) below-x ∙ ap₂ (λ (a b : ℕ). a / 2 ^ b) fit-x fit-y)
 
 pub standard-agrees : StandardAgrees
 unfolding StandardAgrees

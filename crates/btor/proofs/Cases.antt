@@ -1,8 +1,8 @@
--- The P cases on operators, by computation.
+-- The cases on operators, and those against laws that are none, by computation.
 -- Assumes nothing.
 use mathlib.Core.Path.{refl}
-use Rattle.btor.specs.Operators.{compute, signedDiv, complement}
-use Rattle.btor.specs.Cases.{OperatorCases}
+use Rattle.btor.specs.Operators.{Reading, compute, signedDiv, complement}
+use Rattle.btor.specs.Cases.{OperatorCases, NoLaws}
 
 pub operator-cases : OperatorCases
 unfolding compute signedDiv complement
@@ -20,4 +20,20 @@ operator-cases =
       ult-at-equality = refl;
       byte-not = refl;
       byte-and = refl;
+    }
+
+pub no-laws : (how : Reading) → NoLaws how
+unfolding compute signedDiv
+no-laws how =
+    record {
+      sll-by-add = (refl, refl);
+      srl-by-add = (refl, refl);
+      srl-over-add = (refl, refl);
+      srl-undoes-sll = refl;
+      sll-undoes-srl = refl;
+      srl-as-divu = (refl, refl);
+      div-rejoined = refl;
+      divu-undoes-mul = refl;
+      ult-of-sums = (refl, refl);
+      ult-of-difference = (refl, refl);
     }

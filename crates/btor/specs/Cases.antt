@@ -1,9 +1,10 @@
--- Operators where they are easily mistaken: past 2^64 and below 0, signs, by 0, shifts by 63 and 64, equality, bytes (docs/FORMAT.md, "Operators").
+-- Operators where they are easily mistaken: past 2^64 and below 0, signs, by 0, shifts by 63 and 64, equality, bytes (docs/FORMAT.md, "Operators");
+-- and forms that look like laws and are none (docs/LAWS.md).
 -- Assumes nothing.
 use Prim.Native.Nat.{ℕ, _-_, _^_}
 use mathlib.Core.Path.{_≡_}
 use mathlib.Core.Bool.{false}
-use Rattle.btor.specs.Operators.{Add, Sub, Mul, Div, Rem, Sll, rust, compute, both, complement, less}
+use Rattle.btor.specs.Operators.{Op, Add, Sub, Mul, Divu, Div, Rem, Sll, Srl, Reading, rust, compute, both, complement, less, bit}
 
 pub record OperatorCases : Type 0 where
   pub add : compute rust Add (2 ^ 64 - 1) 1 ≡ 0
@@ -18,3 +19,23 @@ pub record OperatorCases : Type 0 where
   pub ult-at-equality : less 12 12 ≡ false
   pub byte-not : complement 8 0 ≡ 255
   pub byte-and : both 3 5 ≡ 1
+
+-- In both readings, what stands left and what stands right of each, at the smallest operands at which the two differ.
+module _ (how : Reading) where
+  abbrev of : Op → ℕ → ℕ → ℕ
+  of op x y = compute how op x y
+
+  abbrev ult : ℕ → ℕ → ℕ
+  ult x y = bit (less x y)
+
+  pub record NoLaws : Type 0 where
+    pub sll-by-add : (of Sll (of Sll 1 1) (2 ^ 64 - 1) ≡ 0) × (of Sll 1 (of Add 1 (2 ^ 64 - 1)) ≡ 1)
+    pub srl-by-add : (of Srl (of Srl 1 1) (2 ^ 64 - 1) ≡ 0) × (of Srl 1 (of Add 1 (2 ^ 64 - 1)) ≡ 1)
+    pub srl-over-add : (of Srl (of Add 1 1) 1 ≡ 1) × (of Add (of Srl 1 1) (of Srl 1 1) ≡ 0)
+    pub srl-undoes-sll : of Srl (of Sll 1 64) 64 ≡ 0
+    pub sll-undoes-srl : of Sll (of Srl 1 1) 1 ≡ 0
+    pub srl-as-divu : (of Srl 0 64 ≡ 0) × (of Divu 0 (of Sll 1 64) ≡ 2 ^ 64 - 1)
+    pub div-rejoined : of Add (of Mul (of Div 1 (2 ^ 64 - 1)) (2 ^ 64 - 1)) (of Rem 1 (2 ^ 64 - 1)) ≡ 2
+    pub divu-undoes-mul : of Divu (of Mul 2 (2 ^ 63)) (2 ^ 63) ≡ 0
+    pub ult-of-sums : (ult (of Add 0 (2 ^ 64 - 1)) (of Add 1 (2 ^ 64 - 1)) ≡ 0) × (ult 0 1 ≡ 1)
+    pub ult-of-difference : (ult (of Add 0 1) 0 ≡ 0) × (ult 0 (of Sub 0 1) ≡ 1)

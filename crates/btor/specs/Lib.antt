@@ -2,4 +2,5 @@ pub mod Sorts
 pub mod Operators
 pub mod Standard
 pub mod Agreement
+pub mod Laws
 pub mod Cases

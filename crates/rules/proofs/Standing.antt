@@ -21,8 +21,9 @@ use Rattle.rules.specs.Legal.{AllLegal}
 use Rattle.rules.specs.Fold.{Fold, stays, swap, make, shared, constOf, isConst, foldWords, foldTest, foldEq, foldAnd, foldOr, foldNot, foldExt, foldConst}
 use Rattle.rules.specs.Laws.{SortFor, MadeRow}
 use Rattle.btor.proofs.Agreement.{cases}
+use Rattle.btor.proofs.Laws.{compute-fits}
 use Rattle.rules.proofs.Base.{cases-cond, and-both, inside-or-past, put-other, is-kind, kind-is}
-use Rattle.rules.proofs.Words.{compute-fits, complement-fits, fits-word, width-bit, width-word, ones-bit, known-sort}
+use Rattle.rules.proofs.Words.{complement-fits, fits-word, width-bit, width-word, ones-bit, known-sort}
 use Rattle.rules.proofs.Legal.{legal-as}
 
 module _ (t : List Node) where

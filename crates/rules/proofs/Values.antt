@@ -23,7 +23,8 @@ use Rattle.rules.proofs.Base.{cases-cond, all-map}
 use Rattle.btor.specs.Standard.{nat2bv, ite, Truth, IsTrue}
 use Rattle.btor.specs.Agreement.{ChoiceAgrees}
 use Rattle.btor.proofs.Agreement.{choice-agrees}
-use Rattle.rules.proofs.Words.{compute-fits, complement-fits, fits-word, width-bit, width-word}
+use Rattle.btor.proofs.Laws.{compute-fits}
+use Rattle.rules.proofs.Words.{complement-fits, fits-word, width-bit, width-word}
 
 -- ---- values that agree on its operands give a row one worth
 pub meaning-same : (how : Reading) (K : Kind) (nd : Node) (u v : ℕ → Value) (own : Value) → All (λ j. u j ≡ v j) (operandsAs K nd)

@@ -1,71 +1,24 @@
--- Laws of the operators and of the widths: what they give fits, and the ten sorts.
+-- Laws of the widths: what fits a sort, And and Or with its ones, and the ten sorts.
 -- Assumes nothing.
-use Prim.Native.Nat.{ℕ, zero, suc, _+_, _-_, _*_, _/_, _%_, _<_, _≤_, _^_}
+use Prim.Native.Nat.{ℕ, _%_, _<_, _≤_, _^_}
 use mathlib.Core.Path.{_≡_, refl, sym, _∙_, subst}
 use mathlib.Core.Bool.{Bool, true, false, cond}
 use mathlib.Core.List.{List, [], _∷_}
-use native.Mathlib.Nat.{mod-lt, mod-le, mod-eq-of-lt, div-le-self}
+use native.Mathlib.Nat.{mod-eq-of-lt}
 use native.Mathlib.Omega.{arith}
-use lib.Dec.{ltb, eqb, lit<}
+use lib.Dec.{eqb}
 use lib.Bits.{bitAnd, bitOr, and-mask, or-add-and}
-use lib.IntN.{ℤ, pos, negsuc, negℤ}
-use lib.Signed.{quotZ, mag}
-use lib.Pow.{pow-pos, pow-mono, ones-sub-lt, shr-le}
-use borrow.Author.Tests.{eqb-true, ltb-true, ltb-false}
-use Rattle.btor.specs.Operators.{Op, Reading, rust, standard, Add, Sub, Mul, Divu, Div, Rem, Sll, Srl, compute, signedDiv, signed, word, overflow, divByZero, leastByMinusOne, remByZero, complement}
+use lib.Pow.{pow-mono, ones-sub-lt}
+use borrow.Author.Tests.{eqb-true}
+use Rattle.btor.specs.Operators.{complement}
 use Rattle.btor.specs.Sorts.{width, ones, codeOf, namedIn, sorts}
 use Rattle.btor.specs.declared.node_type.CodedSort.the-variants.{Known}
 use Rattle.btor.specs.declared.node_type.NodeType.{NodeType}
 use Rattle.btor.proofs.Sorts.{code-width-le}
 use Rattle.rules.specs.Check.{isKnown, knownSort}
 use Rattle.rules.specs.Lists.{All}
-use Rattle.btor.proofs.Agreement.{cases}
-use Rattle.rules.proofs.Base.{cases-cond, no}
+use Rattle.rules.proofs.Base.{no}
 
-mod-word : (x : ℕ) → x % 2 ^ 64 < 2 ^ 64
-mod-word x = mod-lt x (pow-pos 64)
-
-divByZero-fits : (how : Reading) (x : ℕ) → divByZero how x < 2 ^ 64
-divByZero-fits rust x = lit< tt
-divByZero-fits standard x = cases-cond (λ m. m < 2 ^ 64) (ltb x (2 ^ 63)) (λ _. lit< tt) (λ _. lit< tt)
-
-least-fits : (how : Reading) → leastByMinusOne how < 2 ^ 64
-least-fits rust = lit< tt
-least-fits standard = lit< tt
-
-remByZero-fits : (how : Reading) (x : ℕ) → x < 2 ^ 64 → remByZero how x < 2 ^ 64
-remByZero-fits rust x h = lit< tt
-remByZero-fits standard x h = h
-
--- ---- a signed quotient fits a word
-negated-fits : (q : ℕ) → word (negℤ (pos q)) < 2 ^ 64
-negated-fits zero = lit< tt
-negated-fits (suc q) = omega arith
-
-quotient-fits : (a b : ℤ) → mag a < 2 ^ 63 → word (quotZ a b) < 2 ^ 64
-quotient-fits (pos a) (pos b) h = omega (arith, div-le-self a b)
-quotient-fits (pos a) (negsuc b) h = negated-fits (a / suc b)
-quotient-fits (negsuc a) (pos b) h = negated-fits (suc a / b)
-quotient-fits (negsuc a) (negsuc b) h = omega (arith, div-le-self (suc a) (suc b))
-
-signed-small : (x : ℕ) → mag (signed x) < 2 ^ 63
-signed-small x = cases-cond (λ z. mag z < 2 ^ 63) (ltb x (2 ^ 63)) (λ e. ltb-true x (2 ^ 63) e) (λ e. omega (arith, ltb-false x (2 ^ 63) e))
-
-pub compute-fits : (how : Reading) (op : Op) (x y : ℕ) → x < 2 ^ 64 → compute how op x y < 2 ^ 64
-unfolding compute signedDiv
-compute-fits how Add x y h = mod-word (x + y)
-compute-fits how Sub x y h = mod-word (x + (2 ^ 64 - y))
-compute-fits how Mul x y h = mod-word (x * y)
-compute-fits how Divu x y h = cases-cond (λ m. m < 2 ^ 64) (eqb y 0) (λ _. lit< tt) (λ _. omega (arith, div-le-self x y))
-compute-fits how Div x y h =
-    cases-cond (λ m. m < 2 ^ 64) (eqb y 0) (λ _. divByZero-fits how x)
-    (λ _. cases-cond (λ m. m < 2 ^ 64) (overflow x y) (λ _. least-fits how)
-    (λ _. quotient-fits (signed x) (signed y) (signed-small x)))
-compute-fits how Rem x y h = cases-cond (λ m. m < 2 ^ 64) (eqb y 0) (λ _. remByZero-fits how x h) (λ _. omega (arith, mod-le x y))
-compute-fits how Sll x y h = cases (λ m. m < 2 ^ 64) (ltb y 64) (λ _. mod-word (x * 2 ^ y)) (λ _. lit< tt)
-compute-fits how Srl x y h = cases (λ m. m < 2 ^ 64) (ltb y 64) (λ _. omega (arith, shr-le x y)) (λ _. lit< tt)
-
--- ---- widths
 pub complement-fits : (w x : ℕ) → complement w x < 2 ^ w
 unfolding complement
 complement-fits w x = ones-sub-lt w (x % 2 ^ w)

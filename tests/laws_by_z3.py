@@ -1,0 +1,123 @@
+#!/usr/bin/env python3
+"""docs/LAWS.md, judged by Z3: each law at 64 bits for all operands, in both readings; by 0 exactly where the page says; what is no law at its operands,
+and that no smaller ones would do. What Z3 does not decide in a minute at 64 bits is put to it at 16, then at 8. The wrong lines that tests/laws.py
+keeps are put to it too, but for the one whose example alone is wrong, and it must find each wrong.
+    tests/laws_by_z3.py        a line for each question; the exit status is 0 if Z3 agrees; five minutes
+The gate does not run this: it needs z3 on the PATH."""
+import re
+import subprocess
+import sys
+
+from laws import READINGS, REJOINED, WRONG, Form, assigned, read, rows, tables, value
+
+NAMES = {"Add": "bvadd", "Sub": "bvsub", "Mul": "bvmul", "Divu": "bvudiv", "Div": "bvsdiv", "Rem": "bvurem", "Sll": "bvshl", "Srl": "bvlshr",
+         "And": "bvand", "Or": "bvor"}
+RELATIONS = {"=": "=", "not": "distinct", "<": "bvult", ">=": "bvuge"}
+SECONDS = 60
+
+
+def number(n, w):
+    return f"(_ bv{n} {w})"
+
+
+def widened(text, w, to):
+    return text if w == to else f"((_ zero_extend {to - w}) {text})"
+
+
+def applied(name, x, y, w, how):
+    """An operator of SMT-LIB, or the Rust's where that differs."""
+    by_zero, most = f"(= {y} {number(0, w)})", number(2 ** (w - 1) - 1, w)
+    if name == "Ult":
+        return f"(ite (bvult {x} {y}) #b1 #b0)"
+    if how == "rust" and name == "Rem":
+        return f"(ite {by_zero} {number(2**w - 1, w)} (bvurem {x} {y}))"
+    if how == "rust" and name == "Div":
+        least = f"(and (= {x} {number(2 ** (w - 1), w)}) (= {y} {number(2**w - 1, w)}))"
+        return f"(ite (or {by_zero} {least}) {most} (bvsdiv {x} {y}))"
+    return f"({NAMES[name]} {x} {y})"
+
+
+def smt(term, w, how):
+    """A term and its width: w, one more for a sum of whole numbers, 1 for a test."""
+    if isinstance(term, str):
+        return term, w
+    if not isinstance(term, tuple) or term[0] in ("^", "-"):
+        n = value(term, w, how, {})
+        return number(n, w + (n == 2**w)), w + (n == 2**w)
+    (left, a), (right, b) = (smt(part, w, how) for part in term[1:])
+    wide = w + 1 if term[0] == "+" or a != b else w
+    left, right = widened(left, a, wide), widened(right, b, wide)
+    if term[0] == "+":
+        return f"(bvadd {left} {right})", wide
+    text = applied(term[0], left, right, wide, how)
+    return (f"((_ extract {w - 1} 0) {text})", w) if wide != w else (text, 1 if term[0] == "Ult" else w)
+
+
+def equal(form, w, how):
+    return "(= {} {})".format(*(smt(side, w, how)[0] for side in form.sides))
+
+
+def claimed(form, w, how):
+    if form.where in ("", "always"):
+        return "true"
+    left, relation, right = re.fullmatch(r"(.*?) (=|not|<|>=) (.*)", form.where).groups()
+    (left, a), (right, b) = smt(read(left), w, how), smt(read(right), w, how)
+    return f"({RELATIONS[relation]} {widened(left, a, max(a, b))} {widened(right, b, max(a, b))})"
+
+
+def smaller(names, at, w):
+    """That the operands come before others, in the order of their names."""
+    if not names:
+        return "false"
+    name, n = names[0], number(at[names[0]], w)
+    return f"(or (bvult {name} {n}) (and (= {name} {n}) {smaller(names[1:], at, w)}))"
+
+
+def questions(found):
+    """For each line its form, the readings it is of, and what no operands may meet, at a width and in a reading."""
+    for text, where, _ in found["law"]:
+        form = Form(text, where)
+        yield form, READINGS.values(), lambda w, how, form=form: f"(and {claimed(form, w, how)} (not {equal(form, w, how)}))"
+    for reading, where, _ in found["reading"]:
+        form = Form(REJOINED, where)
+        yield form, [READINGS[reading]], lambda w, how, form=form: f"(xor {claimed(form, w, how)} {equal(form, w, how)})"
+    for text, where, operands, *stated in found["no law"]:
+        form = Form(text, where)
+        yield form, READINGS.values(), lambda w, how, *line, of=(form, operands, stated): misstated(*of, w, how)
+
+
+def misstated(form, operands, stated, w, how):
+    """That a form which is no law fails at smaller operands, or does not have the stated values at its own."""
+    at, sides = assigned(operands, w), [smt(side, w, how) for side in form.sides]
+    here = " ".join(f"(= {name} {number(at[name], w)})" for name in form.names)
+    given = " ".join(f"(= {text} {number(value(read(n), w, how, {}), wide)})" for (text, wide), n in zip(sides, stated))
+    fails = f"(and {claimed(form, w, how)} (not {equal(form, w, how)}))"
+    return f"(or (and {smaller(form.names, at, w)} {fails}) (and {here} (not (and {fails} {given}))))"
+
+
+def asked(form, formula, how):
+    """Whether some operands meet a formula, by Z3, and at which width it could tell."""
+    for w in (64, 16, 8):
+        declared = "".join(f"(declare-const {name} (_ BitVec {w}))" for name in form.names)
+        text = f"(set-logic QF_BV){declared}(assert {formula(w, how)})(check-sat)"
+        answer = subprocess.run(["z3", f"-T:{SECONDS}", "-in"], input=text, capture_output=True, text=True).stdout.strip()
+        if answer in ("sat", "unsat"):
+            break
+    return answer, w
+
+
+def main():
+    wrong = {head: rows(lines)[:3] for head, lines in WRONG.items()}
+    put = others = 0
+    for found, expected in ((tables(), "unsat"), (wrong, "sat")):
+        for form, readings, formula in questions(found):
+            for how in readings:
+                answer, w = asked(form, formula, how)
+                put, others = put + 1, others + (answer != expected)
+                print(f"{answer}, {'as' if answer == expected else 'NOT AS'} it must be, at {w} bits, {how}: {form.text}")
+    print(f"z3: {put} questions, {others} answered otherwise")
+    return 1 if others else 0
+
+
+if __name__ == "__main__":
+    sys.exit(main())
