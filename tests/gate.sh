@@ -36,7 +36,8 @@ fresh() {
     for program in awk cat dirname env grep mkdir mktemp rm tail tee; do ln -s "$(command -v "$program")" "$bin/$program"; done
     for program in cc cargo python3; do script "$bin/$program" 'exit 1'; done
     script "$bin/rt" 'echo $1 >>'"'$work/ran'; . '$work'/rt."'$1'
-    for each in gate fmt quotes laws library wrapper; do does $each "echo $each as expected"; done
+    for each in gate fmt quotes library wrapper; do does $each "echo $each as expected"; done
+    does laws '[ "$1" = target/bin/optimize_model ] && echo laws as expected'
     does edits '[ "$FROM_NOTHING" = 1 ] && echo edits as expected'
     does ci 'echo a crate; echo 3 passed, 0 failed'
 }

@@ -1,9 +1,10 @@
 #!/usr/bin/env python3
-"""docs/LAWS.md, judged by operators that are written here over the width, from docs/FORMAT.md and SMT-LIB. Where the page has 64 a width is meant.
+"""docs/LAWS.md, held to the statements that are proved, and judged by operators that are written here, over the width, from FORMAT and SMT-LIB.
     tests/laws.py [PROGRAM]        lists what is wrong, and then ends with 1; with PROGRAM, optimize_model, each example is also folded by it
-A law must hold on all operands of small widths and on those at limits of 64 bits, in both readings; by 0 exactly where the page says. An example must
-have its value. What is no law must fail at its operands with those two values and, at small widths, at no smaller ones. Wrong lines, kept here, must
-be found wrong; and the operators in the Rust's reading must give the Rust's own answers, those of crates/operator_vectors."""
+Each line says what the field of its name says in crates/btor/specs, and each field has its line. Where the page has 64, any width is meant: a law must
+hold on all operands of small widths and on those at limits of 64 bits, in both readings; by 0 exactly where the page says. An example must have its
+value. What is no law must fail at its operands with those two values and, at small widths, at no smaller ones. Wrong lines, kept here, must be found
+wrong; and the operators in the Rust's reading must give the Rust's own answers, those of crates/operator_vectors."""
 import itertools
 import operator
 import pathlib
@@ -12,29 +13,36 @@ import subprocess
 import sys
 
 ROOT = pathlib.Path(__file__).resolve().parent.parent
+SPECS = ROOT / "crates/btor/specs"
 KINDS = {"Add": 4, "Sub": 5, "Mul": 6, "Divu": 7, "Div": 8, "Rem": 9, "Sll": 10, "Srl": 11, "Ult": 12, "And": 16, "Or": 17}
 CONST, EQ, BAD = 1, 15, 22
 BIT, WORD, BYTE = 1, 2, 11
 READINGS = {"the Rust's": "rust", "the standard's": "standard"}
 RELATIONS = {"=": operator.eq, "not": operator.ne, "<": operator.lt, ">=": operator.ge}
-SMALL = {1: (2, 3, 4, 5, 6), 2: (2, 3, 4, 5), 3: (2, 3, 4)}  # widths tried in full, by how many operands there are
+NAMES = "xyzpq"
+SMALL = {1: (3, 4, 5, 6), 2: (3, 4, 5), 3: (3, 4)}  # widths tried in full, by how many operands there are
 LIMITS = [0, 1, 2, 3, 31, 32, 33, 62, 63, 64, 65, 2**32, 2**63 - 1, 2**63, 2**63 + 1, 2**64 - 2, 2**64 - 1]
 WRONG_ANSWERS = 2  # of each operator's kept answers, deliberately
 REJOINED = "Add (Mul (Divu x 0) 0) (Rem x 0) = x"
 
-# What must be found wrong. Laws: one that is none, one past its limit, one that needs its condition, a wrong example. No laws: a law, a wrong value,
-# operands that are not the smallest. By 0: a dividend too many, and too few.
+# What must be found wrong. Laws: one that is none, one past its limit, one that needs its condition. No laws: a law, a wrong value, operands that are
+# not the smallest. By 0: a dividend too many, and too few.
 WRONG = {
-    "law": """`Sub x y = Sub y x` | | x = 1, y = 1: 0
-        `Sll (Sll x p) q = 0` | p + q >= 63 | x = 1, p = 32, q = 32: 0
-        `Add (Mul (Divu x y) y) (Rem x y) = x` | | x = 7, y = 2: 7
-        `Add x y = Add y x` | | x = 3, y = 5: 9""",
-    "no law": """`Mul x y = Mul y x` | | x = 1, y = 1 | 1 | 1
-        `Sll (Srl x p) p = x` | | x = 1, p = 1 | 0 | 0
-        `Sll (Srl x p) p = x` | | x = 3, p = 1 | 2 | 3""",
+    "law": """`Sub x y = Sub y x` | | x = 1, y = 1: 0 |
+        `Sll (Sll x p) q = 0` | p + q >= 63 | x = 1, p = 32, q = 32: 0 |
+        `Add (Mul (Divu x y) y) (Rem x y) = x` | | x = 7, y = 2: 7 |""",
+    "no law": """`Mul x y = Mul y x` | | x = 1, y = 1 | 1 | 1 |
+        `Sll (Srl x p) p = x` | p < 64 | x = 1, p = 1 | 0 | 0 |
+        `Sll (Srl x p) p = x` | p < 64 | x = 3, p = 1 | 2 | 3 |""",
     "reading": """the Rust's | always | x = 2^64 - 1: 2^64 - 1
         the standard's | x = 2^64 - 1 | x = 0: 0""",
 }
+# Here alone: an example with another value, one with an operand too many, what is no term, and what is no condition.
+WRONG_TEXT = """`Add x y = Add y x` | | x = 3, y = 5: 9 |
+    `Add x y = Add y x` | | x = 3, y = 5, z = 5: 8 |
+    `Sub (Add x y z) = Sub x (Add y z)` | | x = 0, y = 0, z = 0: 0 |
+    `Add ~x y = Add y x` | | x = 3, y = 5: 8 |
+    `Add x y = Add y x` | x > 2 | x = 3, y = 5: 8 |"""
 
 
 def div(x, y, w, how):
@@ -68,29 +76,32 @@ WHOLE = {"+": operator.add, "-": operator.sub, "^": operator.pow}
 
 def read(text):
     """A term: a number, an operand's name, or (operator, left, right); +, - and ^ are of whole numbers."""
-    tokens = re.findall(r"\w+|[()^+-]", text)
+    tokens = re.findall(r"\w+|\S", text)
 
     def factor():
         token = tokens.pop(0)
         if token in OPERATORS:
             return (token, factor(), factor())
-        term = total() if token == "(" else int(token) if token.isdigit() else token
         if token == "(":
-            tokens.remove(")")
+            term = total()
+            assert tokens and tokens.pop(0) == ")", f"'{text}' is no term"
+        else:
+            assert token.isdigit() or token in tuple(NAMES), f"'{text}' is no term"
+            term = int(token) if token.isdigit() else token
         return (tokens.pop(0), term, factor()) if tokens[:1] == ["^"] else term
 
     def total():
         term = factor()
-        while tokens and tokens[0] in "+-":
+        while tokens[:1] in (["+"], ["-"]):
             term = (tokens.pop(0), term, factor())
         return term
 
     term = total()
-    assert not tokens, text
+    assert not tokens, f"'{text}' is no term"
     return term
 
 
-def value(term, w, how, at):
+def value(term, w, how=None, at=None):
     """What a term is at width w, which stands where the page has 64, and w - 1 where it has 63."""
     if isinstance(term, int):
         return {64: w, 63: w - 1}.get(term, term)
@@ -100,24 +111,30 @@ def value(term, w, how, at):
     return WHOLE[name](left, right) if name in WHOLE else OPERATORS[name](left, right, w, how)
 
 
+def operands_of(text):
+    return {name: read(number) for name, number in (part.split("=") for part in text.replace(" ", "").split(","))}
+
+
 def assigned(text, w):
-    return {name: value(read(number), w, None, {}) for name, number in re.findall(r"([a-z]) = ([^,:]+)", text)}
+    return {name: value(term, w) for name, term in operands_of(text).items()}
 
 
 class Form:
-    """Two terms that are claimed to be equal, and where."""
+    """Two terms that are claimed to be equal, and where: a relation between two terms, or always."""
 
     def __init__(self, text, where):
         self.text = text.strip("`")
         self.sides = [read(side) for side in self.text.split("=")]
-        self.names = [name for name in "xyzpq" if re.search(rf"\b{name}\b", text)]
-        self.where = where
+        self.names = [name for name in NAMES if re.search(rf"\b{name}\b", text)]
+        parts = re.fullmatch(r"(.*?) (=|not|<|>=) (.*)", where)
+        assert parts or where in ("", "always"), f"'{where}' is no condition"
+        self.where = (read(parts[1]), parts[2], read(parts[3])) if parts else None
 
-    def holds_where(self, w, at):
-        if self.where in ("", "always"):
+    def claims(self, w, at):
+        if not self.where:
             return True
-        left, relation, right = re.fullmatch(r"(.*?) (=|not|<|>=) (.*)", self.where).groups()
-        return RELATIONS[relation](value(read(left), w, None, at), value(read(right), w, None, at))
+        left, relation, right = self.where
+        return RELATIONS[relation](value(left, w, None, at), value(right, w, None, at))
 
     def values(self, w, how, at):
         return [value(side, w, how, at) for side in self.sides]
@@ -131,32 +148,28 @@ class Form:
         """The first operands at which it does not hold though it is claimed."""
         for at in self.operands(w):
             left, right = self.values(w, how, at)
-            if left != right and self.holds_where(w, at):
+            if left != right and self.claims(w, at):
                 return at
         return None
 
 
-def judge_law(text, where, example):
+def judge_law(text, where, example, _):
     form, (operands, number) = Form(text, where), example.split(":")
     at = assigned(operands, 64)
+    assert sorted(at) == sorted(form.names), "its example has other operands"
     for how in READINGS.values():
         for w in SMALL[len(form.names)] + (64,):
-            if form.failing(w, how) is not None:
-                return f"fails at width {w}, {form.failing(w, how)}"
-        if form.values(64, how, at) != [value(read(number), 64, how, {})] * 2 or not form.holds_where(64, at):
-            return f"its example gives {form.values(64, how, at)}"
-    return None
+            assert form.failing(w, how) is None, f"fails at width {w}, {form.failing(w, how)}"
+        assert form.values(64, how, at) == [value(read(number), 64)] * 2, f"its example gives {form.values(64, how, at)}"
+        assert form.claims(64, at), "its example is of other operands"
 
 
-def judge_no_law(text, where, operands, left, right):
-    form, stated = Form(text, where), [value(read(side), 64, None, {}) for side in (left, right)]
+def judge_no_law(text, where, operands, left, right, _):
+    form, stated = Form(text, where), [value(read(side), 64) for side in (left, right)]
     for how in READINGS.values():
-        if form.values(64, how, assigned(operands, 64)) != stated:
-            return f"gives {form.values(64, how, assigned(operands, 64))}"
+        assert form.values(64, how, assigned(operands, 64)) == stated, f"gives {form.values(64, how, assigned(operands, 64))}"
         for w in SMALL[len(form.names)]:
-            if form.failing(w, how) != assigned(operands, w):
-                return f"fails first at {form.failing(w, how)} at width {w}"
-    return None
+            assert form.failing(w, how) == assigned(operands, w), f"fails first at {form.failing(w, how)} at width {w}"
 
 
 def judge_by_zero(reading, where, example):
@@ -164,30 +177,101 @@ def judge_by_zero(reading, where, example):
     for w in SMALL[1] + (64,):
         for at in form.operands(w):
             left, right = form.values(w, how, at)
-            if (left == right) != form.holds_where(w, at):
-                return f"gives {left} for {right} at width {w}"
-    left = form.values(64, how, assigned(operands, 64))[0]
-    return None if left == value(read(number), 64, how, {}) else f"its example gives {left}"
+            assert (left == right) == form.claims(w, at), f"gives {left} for {right} at width {w}"
+    assert form.values(64, how, assigned(operands, 64))[0] == value(read(number), 64), "its example has another value"
 
 
 JUDGES = {"law": judge_law, "no law": judge_no_law, "reading": judge_by_zero}
 
 
+def fault(judge, row):
+    """What is wrong with a line, or nothing."""
+    try:
+        judge(*row)
+    except AssertionError as found:
+        return str(found)
+    except (IndexError, KeyError, TypeError, ValueError):
+        return "not understood"
+    return None
+
+
 def rows(text):
-    return [[cell.strip() for cell in line.strip().strip("|").split("|")] for line in text.splitlines()]
+    return [[cell.strip() for cell in re.split(r"\|", line.strip().removeprefix("|").removesuffix("|"))] for line in text.splitlines()]
 
 
 def tables():
-    """The rows of the page's tables, by the head of their first column."""
-    found = {head: [] for head in JUDGES}
+    """The lines of the page's tables, by the head of their first column."""
+    found = {}
     for table in re.findall(r"(?:^\|.*\n)+", (ROOT / "docs/LAWS.md").read_text(), re.M):
         head, _, *body = rows(table)
-        found[head[0]] += body
+        found.setdefault(head[0], []).extend(body)
     return found
 
 
+def fields(file, record):
+    """The fields of a record of the definitions and their types."""
+    lines = (SPECS / file).read_text().splitlines()
+    start = next(k for k, line in enumerate(lines) if re.match(rf" *pub record {record}\b", line))
+    return dict(re.fullmatch(r" *pub ([\w-]+) : (.*)", line).groups() for line in itertools.takewhile(str.strip, lines[start + 1 :]))
+
+
+def in_words_of_the_page(kind):
+    """The form and the condition that a type states; that operands are words, or below the bound n, goes without saying."""
+    *premises, equation = kind.replace(" ^ ", "^").split(" → ")
+    left = [each for each in premises if not re.fullmatch(r"\(.* : ℕ\)|\w < n|\w < 2\^64", each)]
+    where = " and ".join(re.sub(r"(\w+) ≤ (.*)", r"\2 >= \1", each).replace("≢", "not") for each in left)
+    return equation.replace("≡", "="), where
+
+
+def stated_laws():
+    """What the fields of `Laws` state, by name."""
+    rejoined = re.search(r"\nrejoined f x y = (.*)", (SPECS / "Laws.antt").read_text())[1]
+    for name, kind in fields("Laws.antt", "Laws").items():
+        part = re.search(r"(Rearranges \(2 \^ \w+\)|Shifts) (?:\(f (\w+)\)|([gh]))$", kind)
+        if part:
+            each = part[2] or {"g": "And", "h": "Or"}[part[3]]
+            for inner, law in fields("Laws.antt", part[1].split()[0]).items():
+                if inner != "below":
+                    yield f"{name} .{inner}", in_words_of_the_page(re.sub(r"\bf\b", each, law))
+        elif name != "by-zero":
+            yield name, in_words_of_the_page(re.sub(r"\bf (?=[A-Z])", "", kind.replace("rejoined f x y", rejoined)))
+
+
+def stated_no_laws():
+    """The sides of what is no law and their values, as `NoLaws` states them, by name."""
+    for name, kind in fields("Cases.antt", "NoLaws").items():
+        parts = [part[1:-1] for part in kind.split(" × ")] if " × " in kind else [kind]
+        sides = (re.sub(r"\bof ", "", part).replace("ult ", "Ult ").split(" ≡ ") for part in parts)
+        yield name, [(read(side), value(read(number), 64)) for side, number in sides]
+
+
+def put(term, operands):
+    """A term with numbers for its operands."""
+    if isinstance(term, tuple):
+        return (term[0], put(term[1], operands), put(term[2], operands))
+    return operands.get(term, term)
+
+
+def untied(found):
+    """Lines of the page that say something else than the definitions, and fields that have no line."""
+    laws = {name: (form.strip("`"), where) for form, where, _, name in found["law"]}
+    others = {}
+    for form, where, operands, left, right, name in found["no law"]:
+        sides = zip(Form(form, where).sides, (left, right))
+        others[name] = [(put(side, operands_of(operands)), value(read(n), 64)) for side, n in sides if isinstance(side, tuple)]
+    zero = {READINGS[reading]: where for reading, where, _ in found["reading"]}
+    regained = dict(re.findall(r"\nRegained (\w+) x = (.*)", (SPECS / "Laws.antt").read_text()))
+    regained = {how: "always" if kind == "Unit" else in_words_of_the_page(kind)[0] for how, kind in regained.items()}
+    if sum(map(len, found.values())) != len(laws) + len(others) + len(zero):
+        yield "docs/LAWS.md has a name twice"
+    for page, stated in ((laws, dict(stated_laws())), (others, dict(stated_no_laws())), (zero, regained)):
+        for name in sorted(set(page) | set(stated)):
+            if page.get(name) != stated.get(name):
+                yield f"{name}: docs/LAWS.md has {page.get(name)}, the definition {stated.get(name)}"
+
+
 def kept_answers():
-    """What the operators here do not answer as the Rust did."""
+    """The operators that do not answer here as the Rust did."""
     names, wrong = {kind: name for name, kind in KINDS.items()}, dict.fromkeys(KINDS, 0)
     for line in (ROOT / "crates/operator_vectors/data/operators.list").read_text().splitlines():
         kind, left, right, answer = map(int, line.split())
@@ -198,7 +282,7 @@ def kept_answers():
 
 def model(form, at):
     """A model whose one bad state is that both sides are equal: its rows, and the nodes of the sides."""
-    nodes, sort = [], BYTE if re.search("And|Or", str(form.sides)) else WORD
+    nodes, sort = [], BYTE if re.search("And|Or", form.text) else WORD
 
     def place(term):
         if isinstance(term, tuple) and term[0] in KINDS:
@@ -218,7 +302,7 @@ def folded(program, form, at):
     nodes, sides = model(form, at)
     words = [0, len(nodes), *itertools.chain(*nodes), 0, 1, len(nodes) - 1, 0, 0, 0, 0]
     told = subprocess.run([program], input=" ".join(map(str, words)), capture_output=True, text=True).stdout.splitlines()
-    assert told[0] == "accepted", (words, told)
+    assert told[:1] == ["accepted"], f"{told} for {words}"
     sections = [[int(word) for word in line.split()[1:]] for line in told[1:]]
     numbers = {k: row[2] for k, row in enumerate(nodes) if row[0] == CONST}
     numbers.update(zip(itertools.count(len(nodes)), sections[1][1::2]))
@@ -226,28 +310,28 @@ def folded(program, form, at):
     return [numbers[stands.get(side, side)] for side in sides], bool(sections[4])
 
 
-def fold_examples(program, found):
-    """The examples that the program folds to something else."""
-    examples = [(text, operands) for text, _, operands, *_ in found["law"] + found["no law"]]
-    examples += [(REJOINED, operands) for _, _, operands in found["reading"]]
-    for text, operands in examples:
-        form, at = Form(text, ""), assigned(operands, 64)
-        values = form.values(64, "rust", at)
-        if folded(program, form, at) != (values, values[0] == values[1]):
-            yield f"{program}: {text} at {operands}: {folded(program, form, at)}"
+def judge_folded(program, text, operands):
+    form, at = Form(text, ""), assigned(operands.split(":")[0], 64)
+    values = form.values(64, "rust", at)
+    assert folded(program, form, at) == (values, values[0] == values[1]), f"folded to {folded(program, form, at)}"
 
 
 def main():
-    found, lost = tables(), kept_answers()
-    for head, judge in JUDGES.items():
-        faults = [(row, judge(*row)) for row in found[head]]
-        lost += [f"docs/LAWS.md: {' | '.join(row)}: {fault}" for row, fault in faults if fault]
-        lost += [f"not found wrong: {' | '.join(row)}" for row in rows(WRONG[head]) if not judge(*row)]
-    for program in sys.argv[1:]:
-        lost += fold_examples(program, found)
+    found = tables()
+    if sorted(found) != sorted(JUDGES):
+        print(f"laws: docs/LAWS.md has tables of {', '.join(found) or 'nothing'}, not of {', '.join(JUDGES)}")
+        return 1
+    lines = [(JUDGES[head], row) for head in JUDGES for row in found[head]]
+    examples = [[text, operands] for text, _, operands, *_ in found["law"] + found["no law"]]
+    examples += [[REJOINED, operands] for _, _, operands in found["reading"]]
+    lines += [(judge_folded, [program, *example]) for program in sys.argv[1:] for example in examples]
+    lost = [f"{' | '.join(row)}: {told}" for judge, row in lines for told in [fault(judge, row)] if told]
+    lost += list(untied(found)) if not lost else []
+    wrong = [(JUDGES[head], row) for head in JUDGES for row in rows(WRONG[head])] + [(judge_law, row) for row in rows(WRONG_TEXT)]
+    lost += [f"not found wrong: {' | '.join(row)}" for judge, row in wrong if not fault(judge, row)] + kept_answers()
     print(*lost, sep="\n", end="\n" if lost else "")
-    print(f"laws: {len(found['law'])} laws, {len(found['no law'])} that are none, {len(lost)} faults{', examples folded' * len(sys.argv[1:])}")
-    return 1 if lost or not all(found.values()) else 0
+    print(f"laws: {len(found['law'])} laws, {len(found['no law'])} that are none, {len(lines)} lines judged, {len(lost)} wrong")
+    return 1 if lost else 0
 
 
 if __name__ == "__main__":

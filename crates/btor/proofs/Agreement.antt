@@ -202,13 +202,13 @@ div-agrees x y hx hy = go (eqb y 0) refl (overflow x y) refl
     go false p false q = sdiv-quotient x y hx hy (eqb-false y 0 p) q
 
 -- ---- shifts, at each distance
-pub sll-is : (how : Reading) (x y : ℕ) → compute how Sll x y ≡ x * 2 ^ y % 2 ^ 64
+pub sll-product : (how : Reading) (x y : ℕ) → compute how Sll x y ≡ x * 2 ^ y % 2 ^ 64
 unfolding compute
-sll-is how x y = cases (λ (r : ℕ). r ≡ x * 2 ^ y % 2 ^ 64) (ltb y 64) (λ _. refl) (λ e. sym (shl-far 64 x y (ltb-false y 64 e)))
+sll-product how x y = cases (λ (r : ℕ). r ≡ x * 2 ^ y % 2 ^ 64) (ltb y 64) (λ _. refl) (λ e. sym (shl-far 64 x y (ltb-false y 64 e)))
 
-pub srl-is : (how : Reading) (x y : ℕ) → x < 2 ^ 64 → compute how Srl x y ≡ x / 2 ^ y
+pub srl-quotient : (how : Reading) (x y : ℕ) → x < 2 ^ 64 → compute how Srl x y ≡ x / 2 ^ y
 unfolding compute
-srl-is how x y h = cases (λ (r : ℕ). r ≡ x / 2 ^ y) (ltb y 64) (λ _. refl) (λ e. sym (shr-far 64 x y h (ltb-false y 64 e)))
+srl-quotient how x y h = cases (λ (r : ℕ). r ≡ x / 2 ^ y) (ltb y 64) (λ _. refl) (λ e. sym (shr-far 64 x y h (ltb-false y 64 e)))
 
 -- ---- the eight operators in the standard's reading
 module _ (x y : ℕ) (hx : x < 2 ^ 64) (hy : y < 2 ^ 64) where
@@ -229,8 +229,8 @@ module _ (x y : ℕ) (hx : x < 2 ^ 64) (hy : y < 2 ^ 64) where
   op-agrees Divu = sym (number-udiv-64 (nat2bv x) (nat2bv y) x y fit-x fit-y hx)
   op-agrees Div = div-agrees x y hx hy ∙ sym (sdiv-number x y hx hy)
   op-agrees Rem = sym (number-urem 64 (nat2bv x) (nat2bv y) below-x ∙ ap₂ (λ (a b : ℕ). cond (eqb b 0) a (a % b)) fit-x fit-y)
-  op-agrees Sll = sll-is standard x y ∙ sym (number-shl 64 (nat2bv x) (nat2bv y) ∙ ap₂ (λ (a b : ℕ). a * 2 ^ b % 2 ^ 64) fit-x fit-y)
-  op-agrees Srl = srl-is standard x y hx ∙ sym (number-lshr 64 (nat2bv x) (nat2bv y) below-x ∙ ap₂ (λ (a b : ℕ). a / 2 ^ b) fit-x fit-y)
+  op-agrees Sll = sll-product standard x y ∙ sym (number-shl 64 (nat2bv x) (nat2bv y) ∙ ap₂ (λ (a b : ℕ). a * 2 ^ b % 2 ^ 64) fit-x fit-y)
+  op-agrees Srl = srl-quotient standard x y hx ∙ sym (number-lshr 64 (nat2bv x) (nat2bv y) below-x ∙ ap₂ (λ (a b : ℕ). a / 2 ^ b) fit-x fit-y)
 
 pub standard-agrees : StandardAgrees
 unfolding StandardAgrees

@@ -28,12 +28,14 @@ no-laws how =
     record {
       sll-by-add = (refl, refl);
       srl-by-add = (refl, refl);
-      srl-over-add = (refl, refl);
       srl-undoes-sll = refl;
       sll-undoes-srl = refl;
-      srl-as-divu = (refl, refl);
-      div-rejoined = refl;
+      srl-over-add = (refl, refl);
+      srl-as-divu-far = (refl, refl);
+      srl-as-div = (refl, refl);
       divu-undoes-mul = refl;
+      div-rejoined = refl;
+      rem-of-sum = (refl, refl);
       ult-of-sums = (refl, refl);
       ult-of-difference = (refl, refl);
     }

@@ -2,22 +2,22 @@
 -- sums and products modulo 2^64; shifts as products and quotients with powers of 2. Before them: each result is a word.
 -- Assumes nothing.
 use Prim.Native.Nat.{ℕ, zero, suc, _+_, _-_, _*_, _/_, _%_, _^_, _<_, _≤_}
-use mathlib.Core.Path.{_≡_, refl, sym, ap, ap₂, _∙_}
+use mathlib.Core.Path.{_≡_, refl, sym, ap, _∙_}
 use mathlib.Core.Logic.{_≢_, _↔_}
 use mathlib.Core.Bool.{Bool, true, false, cond}
 use native.Mathlib.Omega.{arith}
-use native.Mathlib.Nat.{add-comm, add-assoc, add-mul, mul-add, mul-comm, mul-assoc, mod-lt, mod-le, mod-eq-of-lt, mod-add-mod, add-mod-mod, add-mul-mod-self-right, mod-add-div', div-add-mod', div-le-self, lt-of-lt-of-le}
+use native.Mathlib.Nat.{add-comm, add-assoc, add-mul, mul-add, one-mul, mul-comm, mul-assoc, mod-lt, mod-le, mod-eq-of-lt, mod-add-mod, add-mod-mod, add-mul-mod-self-right, mod-add-div', div-add-mod', div-le-self, lt-of-lt-of-le}
 use lib.Dec.{ltb, eqb, lit<}
 use lib.Bits.{bitAnd, bitOr, and-comm, or-comm, and-lt, or-lt}
 use lib.IntN.{ℤ, pos, negsuc, negℤ}
-use lib.Pow.{pow-pos, pow-add, pow-mono, shr-shr, shr-le}
+use lib.Pow.{pow-pos, pow-lt, pow-add, pow-mono, shr-shr, shr-le}
 use lib.Signed.{quotZ, mag}
 use borrow.Author.Tests.{eq-eqb, ne-eqb, ltb-true, ltb-false, le-ltb}
 use Rattle.btor.specs.Operators.{Op, Add, Sub, Mul, Divu, Div, Rem, Sll, Srl, Reading, rust, standard, compute, both, either, signedDiv, signed, word, overflow, divByZero, leastByMinusOne, remByZero}
 use Rattle.btor.specs.Standard.{nat2bv, bvand, bvor}
-use Rattle.btor.specs.Laws.{Agree, Rearranges, Shifts, rejoined, Regained, Follows, Laws, LawsHold}
+use Rattle.btor.specs.Laws.{AgreeBelow, Rearranges, Shifts, rejoined, Regained, Follows, Laws, LawsHold}
 use Rattle.btor.proofs.BitVectors.{and-at, or-at}
-use Rattle.btor.proofs.Agreement.{cases, equal-numbers, sll-is, srl-is}
+use Rattle.btor.proofs.Agreement.{cases, equal-numbers, sll-product, srl-quotient}
 
 -- ---- each result is a word
 mod-word : (x : ℕ) → x % 2 ^ 64 < 2 ^ 64
@@ -124,10 +124,6 @@ module _ (how : Reading) where
         associates = λ x y z hx hy hz. simp (mod-mul-mod, mul-mod-mod, mul-assoc);
       }
 
-  mul-over-add : (x y z : ℕ) → compute how Mul x (compute how Add y z) ≡ compute how Add (compute how Mul x y) (compute how Mul x z)
-  unfolding compute
-  mul-over-add x y z = simp (mul-mod-mod, mod-add-mod, add-mod-mod, mul-add)
-
   sub-undoes-add : (x y : ℕ) → x < 2 ^ 64 → y < 2 ^ 64 → compute how Sub (compute how Add x y) y ≡ x
   unfolding compute
   sub-undoes-add x y hx hy = omega arith
@@ -136,15 +132,38 @@ module _ (how : Reading) where
   unfolding compute
   add-undoes-sub x y hx hy = omega arith
 
+  sub-of-sum : (x y z : ℕ) → compute how Sub (compute how Add x y) z ≡ compute how Add x (compute how Sub y z)
+  unfolding compute
+  sub-of-sum x y z = simp (mod-add-mod, add-mod-mod, add-assoc)
+
+  sub-twice : (x y z : ℕ) → y < 2 ^ 64 → z < 2 ^ 64 → compute how Sub (compute how Sub x y) z ≡ compute how Sub x (compute how Add y z)
+  unfolding compute
+  sub-twice x y z hy hz = simp mod-add-mod (omega arith)
+
+  mul-over-add : (x y z : ℕ) → compute how Mul x (compute how Add y z) ≡ compute how Add (compute how Mul x y) (compute how Mul x z)
+  unfolding compute
+  mul-over-add x y z = simp (mul-mod-mod, mod-add-mod, add-mod-mod, mul-add)
+
   sll-twice : (x p q : ℕ) → compute how Sll (compute how Sll x p) q ≡ compute how Sll x (p + q)
-  sll-twice x p q = rw (sll-is how x p, sll-is how (x * 2 ^ p % 2 ^ 64) q, sll-is how x (p + q), mod-mul-mod (x * 2 ^ p) (2 ^ q) (2 ^ 64), pow-add 2 p q, mul-assoc x (2 ^ p) (2 ^ q))
+  sll-twice x p q = rw (sll-product how x p, sll-product how (x * 2 ^ p % 2 ^ 64) q, sll-product how x (p + q), mod-mul-mod (x * 2 ^ p) (2 ^ q) (2 ^ 64), pow-add 2 p q, mul-assoc x (2 ^ p) (2 ^ q))
 
   srl-twice : (x p q : ℕ) → x < 2 ^ 64 → compute how Srl (compute how Srl x p) q ≡ compute how Srl x (p + q)
-  srl-twice x p q h = srl-is how (compute how Srl x p) q (compute-fits how Srl x p h) ∙ rw (srl-is how x p h, srl-is how x (p + q) h) (shr-shr x p q)
+  srl-twice x p q h = srl-quotient how (compute how Srl x p) q (compute-fits how Srl x p h) ∙ rw (srl-quotient how x p h, srl-quotient how x (p + q) h) (shr-shr x p q)
 
   sll-over-add : (x y p : ℕ) → compute how Sll (compute how Add x y) p ≡ compute how Add (compute how Sll x p) (compute how Sll y p)
   unfolding compute
-  sll-over-add x y p = rw (sll-is how ((x + y) % 2 ^ 64) p, sll-is how x p, sll-is how y p) (simp (mod-mul-mod, mod-add-mod, add-mod-mod, add-mul))
+  sll-over-add x y p = rw (sll-product how ((x + y) % 2 ^ 64) p, sll-product how x p, sll-product how y p) (simp (mod-mul-mod, mod-add-mod, add-mod-mod, add-mul))
+
+  sll-as-mul : (x p : ℕ) → compute how Sll x p ≡ compute how Mul x (compute how Sll 1 p)
+  unfolding compute
+  sll-as-mul x p = rw (sll-product how x p, sll-product how 1 p) (simp (mul-mod-mod, one-mul))
+
+  srl-as-divu : (x p : ℕ) → x < 2 ^ 64 → p < 64 → compute how Srl x p ≡ compute how Divu x (compute how Sll 1 p)
+  unfolding compute
+  srl-as-divu x p hx hp =
+      let distance : compute how Sll 1 p ≡ 2 ^ p = sll-product how 1 p ∙ rw (one-mul (2 ^ p)) (mod-eq-of-lt (pow-lt hp)) in
+      let positive : 2 ^ p ≢ 0 = λ e. omega (arith, pow-pos p) in
+      srl-quotient how x p hx ∙ sym (ap (compute how Divu x) distance ∙ rw (compute, ne-eqb (2 ^ p) 0 positive))
 
   sll-far : (x d : ℕ) → 64 ≤ d → compute how Sll x d ≡ 0
   unfolding compute
@@ -171,14 +190,18 @@ operator-laws how =
     record {
       add = add-rearranges how;
       mul = mul-rearranges how;
-      mul-over-add = λ x y z hx hy hz. mul-over-add how x y z;
       and = λ w _. and-rearranges w;
       or = λ w _. or-rearranges w;
       sub-undoes-add = sub-undoes-add how;
       add-undoes-sub = add-undoes-sub how;
+      sub-of-sum = λ x y z hx hy hz. sub-of-sum how x y z;
+      sub-twice = λ x y z hx. sub-twice how x y z;
+      mul-over-add = λ x y z hx hy hz. mul-over-add how x y z;
       sll = shifts (compute how Sll) (λ x p q hx. sll-twice how x p q) (sll-far how);
       srl = shifts (compute how Srl) (srl-twice how) (srl-far how);
       sll-over-add = λ x y p hx hy hp. sll-over-add how x y p;
+      sll-as-mul = λ x p hx hp. sll-as-mul how x p;
+      srl-as-divu = srl-as-divu how;
       divided = λ x y hx hy n. division how x y hx n;
       by-zero = division-by-zero how;
     }
@@ -187,7 +210,7 @@ operator-laws how =
 pub operators-follow : (how : Reading) → Follows how (compute how) both either
 operators-follow how = record { on = λ op x y hx hy. refl; and = λ x y hx hy. refl; or = λ x y hx hy. refl }
 
-rearranges-as : (n : ℕ) (f g : ℕ → ℕ → ℕ) → Agree n f g → Rearranges n g → Rearranges n f
+rearranges-as : (n : ℕ) (f g : ℕ → ℕ → ℕ) → AgreeBelow n f g → Rearranges n g → Rearranges n f
 rearranges-as n f g e r =
     record {
       below = λ x y hx hy. rw (e x y hx hy) (r .below x y hx hy);
@@ -196,57 +219,61 @@ rearranges-as n f g e r =
     }
 
 -- on words, so also at each narrower width
-narrower : (w : ℕ) (f g : ℕ → ℕ → ℕ) → w ≤ 64 → Agree (2 ^ 64) f g → Agree (2 ^ w) f g
+narrower : (w : ℕ) (f g : ℕ → ℕ → ℕ) → w ≤ 64 → AgreeBelow (2 ^ 64) f g → AgreeBelow (2 ^ w) f g
 narrower w f g l e x y hx hy = e x y (lt-of-lt-of-le hx (pow-mono l)) (lt-of-lt-of-le hy (pow-mono l))
 
-module _ (how : Reading) (f : Op → ℕ → ℕ → ℕ) (on : (op : Op) → Agree (2 ^ 64) (f op) (compute how op)) where
+module _ (how : Reading) (f : Op → ℕ → ℕ → ℕ) (on : (op : Op) → AgreeBelow (2 ^ 64) (f op) (compute how op)) where
   fits : (op : Op) (x y : ℕ) → x < 2 ^ 64 → compute how op x y < 2 ^ 64
   fits = compute-fits how
 
-  -- one operator after another, and two before one
-  after : (op before : Op) (x y z : ℕ) → x < 2 ^ 64 → y < 2 ^ 64 → z < 2 ^ 64 → f op (f before x y) z ≡ compute how op (compute how before x y) z
-  after op before x y z hx hy hz = ap (λ (n : ℕ). f op n z) (on before x y hx hy) ∙ on op (compute how before x y) z (fits before x y hx) hz
+  -- an operator of another's result: on the left, on the right, on both sides
+  on-left : (op inner : Op) (x y z : ℕ) → x < 2 ^ 64 → y < 2 ^ 64 → z < 2 ^ 64 → f op (f inner x y) z ≡ compute how op (compute how inner x y) z
+  on-left op inner x y z hx hy hz = ap (λ (n : ℕ). f op n z) (on inner x y hx hy) ∙ on op (compute how inner x y) z (fits inner x y hx) hz
 
-  of-two : (op left right : Op) (x y u v : ℕ) → x < 2 ^ 64 → y < 2 ^ 64 → u < 2 ^ 64 → v < 2 ^ 64
+  on-right : (op inner : Op) (x y z : ℕ) → x < 2 ^ 64 → y < 2 ^ 64 → z < 2 ^ 64 → f op x (f inner y z) ≡ compute how op x (compute how inner y z)
+  on-right op inner x y z hx hy hz = ap (f op x) (on inner y z hy hz) ∙ on op x (compute how inner y z) hx (fits inner y z hy)
+
+  on-both : (op left right : Op) (x y u v : ℕ) → x < 2 ^ 64 → y < 2 ^ 64 → u < 2 ^ 64 → v < 2 ^ 64
       → f op (f left x y) (f right u v) ≡ compute how op (compute how left x y) (compute how right u v)
-  of-two op left right x y u v hx hy hu hv =
-      ap₂ (f op) (on left x y hx hy) (on right u v hu hv) ∙ on op (compute how left x y) (compute how right u v) (fits left x y hx) (fits right u v hu)
+  on-both op left right x y u v hx hy hu hv = ap (λ (n : ℕ). f op n (f right u v)) (on left x y hx hy) ∙ on-right op right (compute how left x y) u v (fits left x y hx) hu hv
 
   rejoined-as : (x y : ℕ) → x < 2 ^ 64 → y < 2 ^ 64 → rejoined f x y ≡ rejoined (compute how) x y
   rejoined-as x y hx hy =
-      ap (λ (n : ℕ). f Add (f Mul n y) (f Rem x y)) (on Divu x y hx hy) ∙ of-two Add Mul Rem (compute how Divu x y) y x y (fits Divu x y hx) hy hx hy
+      ap (λ (n : ℕ). f Add (f Mul n y) (f Rem x y)) (on Divu x y hx hy) ∙ on-both Add Mul Rem (compute how Divu x y) y x y (fits Divu x y hx) hy hx hy
 
   shifts-as : (op : Op) → Shifts (compute how op) → Shifts (f op)
   shifts-as op s =
       record {
-        joined = λ x p q hx l. after op op x p q hx (omega arith) (omega arith) ∙ s .joined x p q hx l ∙ sym (on op x (p + q) hx l);
-        far = λ x p q hx hp hq l. after op op x p q hx hp hq ∙ s .far x p q hx hp hq l;
+        joined = λ x p q hx l. on-left op op x p q hx (omega arith) (omega arith) ∙ s .joined x p q hx l ∙ sym (on op x (p + q) hx l);
+        far = λ x p q hx hp hq l. on-left op op x p q hx hp hq ∙ s .far x p q hx hp hq l;
       }
+
+  words-obey : (g h : ℕ → ℕ → ℕ) → AgreeBelow (2 ^ 64) g both → AgreeBelow (2 ^ 64) h either → Laws how f g h
+  words-obey g h and or =
+      record {
+        add = rearranges-as (2 ^ 64) (f Add) (compute how Add) (on Add) (laws .add);
+        mul = rearranges-as (2 ^ 64) (f Mul) (compute how Mul) (on Mul) (laws .mul);
+        and = λ w l. rearranges-as (2 ^ w) g both (narrower w g both l and) (laws .and w l);
+        or = λ w l. rearranges-as (2 ^ w) h either (narrower w h either l or) (laws .or w l);
+        sub-undoes-add = λ x y hx hy. on-left Sub Add x y y hx hy hy ∙ laws .sub-undoes-add x y hx hy;
+        add-undoes-sub = λ x y hx hy. on-left Add Sub x y y hx hy hy ∙ laws .add-undoes-sub x y hx hy;
+        sub-of-sum = λ x y z hx hy hz. on-left Sub Add x y z hx hy hz ∙ laws .sub-of-sum x y z hx hy hz ∙ sym (on-right Add Sub x y z hx hy hz);
+        sub-twice = λ x y z hx hy hz. on-left Sub Sub x y z hx hy hz ∙ laws .sub-twice x y z hx hy hz ∙ sym (on-right Sub Add x y z hx hy hz);
+        mul-over-add = λ x y z hx hy hz. on-right Mul Add x y z hx hy hz ∙ laws .mul-over-add x y z hx hy hz ∙ sym (on-both Add Mul Mul x y x z hx hy hx hz);
+        sll = shifts-as Sll (laws .sll);
+        srl = shifts-as Srl (laws .srl);
+        sll-over-add = λ x y p hx hy hp. on-left Sll Add x y p hx hy hp ∙ laws .sll-over-add x y p hx hy hp ∙ sym (on-both Add Sll Sll x p y p hx hp hy hp);
+        sll-as-mul = λ x p hx hp. on Sll x p hx hp ∙ laws .sll-as-mul x p hx hp ∙ sym (on-right Mul Sll x 1 p hx (lit< tt) hp);
+        srl-as-divu = λ x p hx hp. on Srl x p hx (omega arith) ∙ laws .srl-as-divu x p hx hp ∙ sym (on-right Divu Sll x 1 p hx (lit< tt) (omega arith));
+        divided = λ x y hx hy n. rejoined-as x y hx hy ∙ laws .divided x y hx hy n;
+        by-zero = λ x hx.
+            let same = rejoined-as x 0 hx (lit< tt) in
+            (λ r. laws .by-zero x hx .0 (sym same ∙ r), λ r. same ∙ laws .by-zero x hx .1 r);
+      }
+    where
+      laws : Laws how (compute how) both either
+      laws = operator-laws how
 
 pub laws-hold : LawsHold
 unfolding LawsHold
-laws-hold how f g h e =
-    record {
-      add = rearranges-as (2 ^ 64) (f Add) (compute how Add) (e .on Add) (laws .add);
-      mul = rearranges-as (2 ^ 64) (f Mul) (compute how Mul) (e .on Mul) (laws .mul);
-      mul-over-add = λ x y z hx hy hz.
-          ap (f Mul x) (e .on Add y z hy hz)
-          ∙ e .on Mul x (compute how Add y z) hx (compute-fits how Add y z hy)
-          ∙ laws .mul-over-add x y z hx hy hz
-          ∙ sym (of-two how f (e .on) Add Mul Mul x y x z hx hy hx hz);
-      and = λ w l. rearranges-as (2 ^ w) g both (narrower w g both l (e .and)) (laws .and w l);
-      or = λ w l. rearranges-as (2 ^ w) h either (narrower w h either l (e .or)) (laws .or w l);
-      sub-undoes-add = λ x y hx hy. after how f (e .on) Sub Add x y y hx hy hy ∙ laws .sub-undoes-add x y hx hy;
-      add-undoes-sub = λ x y hx hy. after how f (e .on) Add Sub x y y hx hy hy ∙ laws .add-undoes-sub x y hx hy;
-      sll = shifts-as how f (e .on) Sll (laws .sll);
-      srl = shifts-as how f (e .on) Srl (laws .srl);
-      sll-over-add = λ x y p hx hy hp.
-          after how f (e .on) Sll Add x y p hx hy hp ∙ laws .sll-over-add x y p hx hy hp ∙ sym (of-two how f (e .on) Add Sll Sll x p y p hx hp hy hp);
-      divided = λ x y hx hy n. rejoined-as how f (e .on) x y hx hy ∙ laws .divided x y hx hy n;
-      by-zero = λ x hx.
-          let same = rejoined-as how f (e .on) x 0 hx (lit< tt) in
-          (λ r. laws .by-zero x hx .0 (sym same ∙ r), λ r. same ∙ laws .by-zero x hx .1 r);
-    }
-  where
-    laws : Laws how (compute how) both either
-    laws = operator-laws how
+laws-hold how f g h e = words-obey how f (e .on) g h (e .and) (e .or)

@@ -1,5 +1,5 @@
--- The laws, of the functions of operators.rt: what answers as their contracts say obeys them, in the Rust's reading.
--- A change of a contract in operators.rt is a change of what stands before the arrows here.
+-- The laws, of the functions of operators.rt: what answers as their contracts say obeys them, in the Rust's reading. So `operator-laws rust` is what a
+-- caller may cite of their answers. A change of a contract in operators.rt is a change of what stands before the arrows here.
 -- Assumes nothing.
 use Prim.Native.Nat.{ℕ, _^_, _<_}
 use mathlib.Core.Path.{_≡_}
@@ -25,7 +25,7 @@ Words = ℕ × (ℕ × Unit)
 abbrev pub Meets : (Words → ℕ → Words → Type 0) → (ℕ → ℕ → ℕ) → Type 0
 Meets learnt f = (x y : ℕ) → x < 2 ^ 64 → y < 2 ^ 64 → learnt (x, (y, tt)) (f x y) (x, (y, tt))
 
--- what a caller learns from the contract of each operator's function
+-- what a caller learns from the contract of each operator's function, which borrows nothing (tt)
 abbrev pub contract : Op → Words → ℕ → Words → Type 0
 contract Add = wrapping-add.Learnt tt
 contract Sub = wrapping-sub.Learnt tt

@@ -20,7 +20,7 @@ pub record OperatorCases : Type 0 where
   pub byte-not : complement 8 0 ≡ 255
   pub byte-and : both 3 5 ≡ 1
 
--- In both readings, what stands left and what stands right of each, at the smallest operands at which the two differ.
+-- in both readings, what stands left and right in each, at the smallest operands at which the two differ; an operand by itself is left out
 module _ (how : Reading) where
   abbrev of : Op → ℕ → ℕ → ℕ
   of op x y = compute how op x y
@@ -31,11 +31,13 @@ module _ (how : Reading) where
   pub record NoLaws : Type 0 where
     pub sll-by-add : (of Sll (of Sll 1 1) (2 ^ 64 - 1) ≡ 0) × (of Sll 1 (of Add 1 (2 ^ 64 - 1)) ≡ 1)
     pub srl-by-add : (of Srl (of Srl 1 1) (2 ^ 64 - 1) ≡ 0) × (of Srl 1 (of Add 1 (2 ^ 64 - 1)) ≡ 1)
-    pub srl-over-add : (of Srl (of Add 1 1) 1 ≡ 1) × (of Add (of Srl 1 1) (of Srl 1 1) ≡ 0)
-    pub srl-undoes-sll : of Srl (of Sll 1 64) 64 ≡ 0
+    pub srl-undoes-sll : of Srl (of Sll 2 63) 63 ≡ 0
     pub sll-undoes-srl : of Sll (of Srl 1 1) 1 ≡ 0
-    pub srl-as-divu : (of Srl 0 64 ≡ 0) × (of Divu 0 (of Sll 1 64) ≡ 2 ^ 64 - 1)
-    pub div-rejoined : of Add (of Mul (of Div 1 (2 ^ 64 - 1)) (2 ^ 64 - 1)) (of Rem 1 (2 ^ 64 - 1)) ≡ 2
+    pub srl-over-add : (of Srl (of Add 1 1) 1 ≡ 1) × (of Add (of Srl 1 1) (of Srl 1 1) ≡ 0)
+    pub srl-as-divu-far : (of Srl 0 64 ≡ 0) × (of Divu 0 (of Sll 1 64) ≡ 2 ^ 64 - 1)
+    pub srl-as-div : (of Srl (2 ^ 63) 1 ≡ 2 ^ 62) × (of Div (2 ^ 63) (of Sll 1 1) ≡ 2 ^ 64 - 2 ^ 62)
     pub divu-undoes-mul : of Divu (of Mul 2 (2 ^ 63)) (2 ^ 63) ≡ 0
+    pub div-rejoined : of Add (of Mul (of Div 1 (2 ^ 64 - 1)) (2 ^ 64 - 1)) (of Rem 1 (2 ^ 64 - 1)) ≡ 2
+    pub rem-of-sum : (of Rem (of Add 1 (2 ^ 64 - 1)) 3 ≡ 0) × (of Rem (of Add (of Rem 1 3) (of Rem (2 ^ 64 - 1) 3)) 3 ≡ 1)
     pub ult-of-sums : (ult (of Add 0 (2 ^ 64 - 1)) (of Add 1 (2 ^ 64 - 1)) ≡ 0) × (ult 0 1 ≡ 1)
     pub ult-of-difference : (ult (of Add 0 1) 0 ≡ 0) × (ult 0 (of Sub 0 1) ≡ 1)

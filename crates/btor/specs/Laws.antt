@@ -1,7 +1,8 @@
 -- The laws by which those who write models may rearrange operators, in both readings (docs/LAWS.md). The proofs stand in proofs/Laws.antt.
 --     Rearranges   Add, Mul, And and Or commute and associate       Shifts     two shifts are one by the sum of their distances
 --     rejoined     Divu times divisor plus Rem                      Regained   the dividends that this gives back where the divisor is 0
---     Laws         all of them, of whatever follows the operators: of the operators themselves, and of the code's functions by their contracts
+--     Follows      functions that answer on words as the operators do, as the operators themselves and, by their contracts, the code's functions
+--     LawsHold     what follows the operators obeys their laws
 -- Assumes nothing.
 use Prim.Native.Nat.{ℕ, _+_, _-_, _^_, _<_, _≤_}
 use mathlib.Core.Path.{_≡_}
@@ -9,8 +10,8 @@ use mathlib.Core.Logic.{_≢_, _↔_}
 use Rattle.btor.specs.Operators.{Op, Add, Sub, Mul, Divu, Rem, Sll, Srl, Reading, rust, standard, compute, both, either}
 
 -- on numbers below n, f answers as g does
-abbrev pub Agree : ℕ → (ℕ → ℕ → ℕ) → (ℕ → ℕ → ℕ) → Type 0
-Agree n f g = (x y : ℕ) → x < n → y < n → f x y ≡ g x y
+abbrev pub AgreeBelow : ℕ → (ℕ → ℕ → ℕ) → (ℕ → ℕ → ℕ) → Type 0
+AgreeBelow n f g = (x y : ℕ) → x < n → y < n → f x y ≡ g x y
 
 -- f keeps to the numbers below n, and there it commutes and associates
 pub record Rearranges (n : ℕ) (f : ℕ → ℕ → ℕ) : Type 0 where
@@ -23,7 +24,6 @@ pub record Shifts (f : ℕ → ℕ → ℕ) : Type 0 where
   pub joined : (x p q : ℕ) → x < 2 ^ 64 → p + q < 2 ^ 64 → f (f x p) q ≡ f x (p + q)
   pub far : (x p q : ℕ) → x < 2 ^ 64 → p < 2 ^ 64 → q < 2 ^ 64 → 64 ≤ p + q → f (f x p) q ≡ 0
 
--- Divu times divisor plus Rem
 abbrev pub rejoined : (Op → ℕ → ℕ → ℕ) → ℕ → ℕ → ℕ
 rejoined f x y = f Add (f Mul (f Divu x y) y) (f Rem x y)
 
@@ -34,23 +34,26 @@ Regained standard x = Unit
 
 -- f is a function for each of the eight operators, g and h are two for And and Or
 module _ (how : Reading) (f : Op → ℕ → ℕ → ℕ) (g h : ℕ → ℕ → ℕ) where
-  -- on words they answer as the operators do
   pub record Follows : Type 0 where
-    pub on : (op : Op) → Agree (2 ^ 64) (f op) (compute how op)
-    pub and : Agree (2 ^ 64) g both
-    pub or : Agree (2 ^ 64) h either
+    pub on : (op : Op) → AgreeBelow (2 ^ 64) (f op) (compute how op)
+    pub and : AgreeBelow (2 ^ 64) g both
+    pub or : AgreeBelow (2 ^ 64) h either
 
   pub record Laws : Type 0 where
     pub add : Rearranges (2 ^ 64) (f Add)
     pub mul : Rearranges (2 ^ 64) (f Mul)
-    pub mul-over-add : (x y z : ℕ) → x < 2 ^ 64 → y < 2 ^ 64 → z < 2 ^ 64 → f Mul x (f Add y z) ≡ f Add (f Mul x y) (f Mul x z)
     pub and : (w : ℕ) → w ≤ 64 → Rearranges (2 ^ w) g
     pub or : (w : ℕ) → w ≤ 64 → Rearranges (2 ^ w) h
     pub sub-undoes-add : (x y : ℕ) → x < 2 ^ 64 → y < 2 ^ 64 → f Sub (f Add x y) y ≡ x
     pub add-undoes-sub : (x y : ℕ) → x < 2 ^ 64 → y < 2 ^ 64 → f Add (f Sub x y) y ≡ x
+    pub sub-of-sum : (x y z : ℕ) → x < 2 ^ 64 → y < 2 ^ 64 → z < 2 ^ 64 → f Sub (f Add x y) z ≡ f Add x (f Sub y z)
+    pub sub-twice : (x y z : ℕ) → x < 2 ^ 64 → y < 2 ^ 64 → z < 2 ^ 64 → f Sub (f Sub x y) z ≡ f Sub x (f Add y z)
+    pub mul-over-add : (x y z : ℕ) → x < 2 ^ 64 → y < 2 ^ 64 → z < 2 ^ 64 → f Mul x (f Add y z) ≡ f Add (f Mul x y) (f Mul x z)
     pub sll : Shifts (f Sll)
     pub srl : Shifts (f Srl)
     pub sll-over-add : (x y p : ℕ) → x < 2 ^ 64 → y < 2 ^ 64 → p < 2 ^ 64 → f Sll (f Add x y) p ≡ f Add (f Sll x p) (f Sll y p)
+    pub sll-as-mul : (x p : ℕ) → x < 2 ^ 64 → p < 2 ^ 64 → f Sll x p ≡ f Mul x (f Sll 1 p)
+    pub srl-as-divu : (x p : ℕ) → x < 2 ^ 64 → p < 64 → f Srl x p ≡ f Divu x (f Sll 1 p)
     pub divided : (x y : ℕ) → x < 2 ^ 64 → y < 2 ^ 64 → y ≢ 0 → rejoined f x y ≡ x
     pub by-zero : (x : ℕ) → x < 2 ^ 64 → (rejoined f x 0 ≡ x) ↔ Regained how x
 
