@@ -1,10 +1,11 @@
 #!/usr/bin/env python3
 """docs/LAWS.md, held to the statements that are proved, and judged by operators that are written here, over the width, from FORMAT and SMT-LIB.
     tests/laws.py [PROGRAM]        lists what is wrong, and then ends with 1; with PROGRAM, optimize_model, each example is also folded by it
-Each line says what the field of its name says in crates/btor/specs, and each field has its line. Where the page has 64, any width is meant: a law must
-hold on all operands of small widths and on those at limits of 64 bits, in both readings; by 0 exactly where the page says. An example must have its
-value. What is no law must fail at its operands with those two values and, at small widths, at no smaller ones. Wrong lines, kept here, must be found
-wrong; and the operators in the Rust's reading must give the Rust's own answers, those of crates/operator_vectors."""
+Each line says what the field of its name says in crates/btor/specs, and each field has its line. Where the page has 64, any width is meant: a law
+must hold on all operands of small widths and on those at limits of 64 bits, in both readings; by 0 exactly where the page says. An example must have
+its value. What is no law must fail at its operands with those two values and, at small widths, at no smaller ones. Wrong lines, kept here, must be
+found wrong, and each line be missed where it is left out; the operators in the Rust's reading must give the Rust's own answers, those of
+crates/operator_vectors."""
 import itertools
 import operator
 import pathlib
@@ -23,26 +24,27 @@ NAMES = "xyzpq"
 SMALL = {1: (3, 4, 5, 6), 2: (3, 4, 5), 3: (3, 4)}  # widths tried in full, by how many operands there are
 LIMITS = [0, 1, 2, 3, 31, 32, 33, 62, 63, 64, 65, 2**32, 2**63 - 1, 2**63, 2**63 + 1, 2**64 - 2, 2**64 - 1]
 WRONG_ANSWERS = 2  # of each operator's kept answers, deliberately
+NOT_UNDERSTOOD = "not understood"
 REJOINED = "Add (Mul (Divu x 0) 0) (Rem x 0) = x"
 
 # What must be found wrong. Laws: one that is none, one past its limit, one that needs its condition. No laws: a law, a wrong value, operands that are
 # not the smallest. By 0: a dividend too many, and too few.
 WRONG = {
-    "law": """`Sub x y = Sub y x` | | x = 1, y = 1: 0 |
-        `Sll (Sll x p) q = 0` | p + q >= 63 | x = 1, p = 32, q = 32: 0 |
-        `Add (Mul (Divu x y) y) (Rem x y) = x` | | x = 7, y = 2: 7 |""",
-    "no law": """`Mul x y = Mul y x` | | x = 1, y = 1 | 1 | 1 |
-        `Sll (Srl x p) p = x` | p < 64 | x = 1, p = 1 | 0 | 0 |
-        `Sll (Srl x p) p = x` | p < 64 | x = 3, p = 1 | 2 | 3 |""",
+    "law": """`Sub x y = Sub y x` | | x = 1, y = 1: 0 | wrong
+        `Sll (Sll x p) q = 0` | p + q >= 63 | x = 1, p = 32, q = 32: 0 | wrong
+        `Add (Mul (Divu x y) y) (Rem x y) = x` | | x = 7, y = 2: 7 | wrong""",
+    "no law": """`Mul x y = Mul y x` | | x = 1, y = 1 | 1 | 1 | wrong
+        `Sll (Srl x p) p = x` | p < 64 | x = 1, p = 1 | 0 | 0 | wrong
+        `Sll (Srl x p) p = x` | p < 64 | x = 3, p = 1 | 2 | 3 | wrong""",
     "reading": """the Rust's | always | x = 2^64 - 1: 2^64 - 1
         the standard's | x = 2^64 - 1 | x = 0: 0""",
 }
 # Here alone: an example with another value, one with an operand too many, what is no term, and what is no condition.
-WRONG_TEXT = """`Add x y = Add y x` | | x = 3, y = 5: 9 |
-    `Add x y = Add y x` | | x = 3, y = 5, z = 5: 8 |
-    `Sub (Add x y z) = Sub x (Add y z)` | | x = 0, y = 0, z = 0: 0 |
-    `Add ~x y = Add y x` | | x = 3, y = 5: 8 |
-    `Add x y = Add y x` | x > 2 | x = 3, y = 5: 8 |"""
+WRONG_TEXT = """`Add x y = Add y x` | | x = 3, y = 5: 9 | wrong
+    `Add x y = Add y x` | | x = 3, y = 5, z = 5: 8 | wrong
+    `Sub (Add x y z) = Sub x (Add y z)` | | x = 0, y = 0, z = 0: 0 | wrong
+    `Add ~x y = Add y x` | | x = 3, y = 5: 8 | wrong
+    `Add x y = Add y x` | x > 2 | x = 3, y = 5: 8 | wrong"""
 
 
 def div(x, y, w, how):
@@ -191,7 +193,7 @@ def fault(judge, row):
     except AssertionError as found:
         return str(found)
     except (IndexError, KeyError, TypeError, ValueError):
-        return "not understood"
+        return NOT_UNDERSTOOD
     return None
 
 
@@ -270,6 +272,10 @@ def untied(found):
                 yield f"{name}: docs/LAWS.md has {page.get(name)}, the definition {stated.get(name)}"
 
 
+def without(found, head, row):
+    return {**found, head: [other for other in found[head] if other is not row]}
+
+
 def kept_answers():
     """The operators that do not answer here as the Rust did."""
     names, wrong = {kind: name for name, kind in KINDS.items()}, dict.fromkeys(KINDS, 0)
@@ -326,9 +332,11 @@ def main():
     examples += [[REJOINED, operands] for _, _, operands in found["reading"]]
     lines += [(judge_folded, [program, *example]) for program in sys.argv[1:] for example in examples]
     lost = [f"{' | '.join(row)}: {told}" for judge, row in lines for told in [fault(judge, row)] if told]
-    lost += list(untied(found)) if not lost else []
+    if not lost:
+        lost = list(untied(found))
+        lost += [f"not missed: {' | '.join(row)}" for head in JUDGES for row in found[head] if not any(untied(without(found, head, row)))]
     wrong = [(JUDGES[head], row) for head in JUDGES for row in rows(WRONG[head])] + [(judge_law, row) for row in rows(WRONG_TEXT)]
-    lost += [f"not found wrong: {' | '.join(row)}" for judge, row in wrong if not fault(judge, row)] + kept_answers()
+    lost += [f"not found wrong: {' | '.join(row)}" for judge, row in wrong if fault(judge, row) in (None, NOT_UNDERSTOOD)] + kept_answers()
     print(*lost, sep="\n", end="\n" if lost else "")
     print(f"laws: {len(found['law'])} laws, {len(found['no law'])} that are none, {len(lines)} lines judged, {len(lost)} wrong")
     return 1 if lost else 0

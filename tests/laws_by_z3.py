@@ -1,8 +1,8 @@
 #!/usr/bin/env python3
-"""docs/LAWS.md, judged by Z3: each law for all operands of 64 bits, in both readings; by 0 exactly where the page says; what is no law at its operands,
-and that no smaller ones would do. What Z3 does not decide in a minute at 64 bits is put to it at 16, then at 8. The wrong lines that tests/laws.py
-keeps are put to it too, and it must find each wrong in one of the readings.
-    tests/laws_by_z3.py        a line for each line; the exit status is 0 if Z3 agrees with all; some ten minutes
+"""docs/LAWS.md, judged by Z3: each law for all operands of 64 bits, in both readings; by 0 exactly where the page says; what is no law at its
+operands, and that no smaller ones would do. What Z3 does not decide at 64 bits in 20 s is put to it at 16, then at 8. The wrong lines that
+tests/laws.py keeps are put to it too, and it must find each wrong in one of the readings.
+    tests/laws_by_z3.py        a line for each line; the exit status is 0 if Z3 agrees with all; five minutes
 The gate does not run this: it needs z3 on the PATH."""
 import functools
 import subprocess
@@ -14,7 +14,7 @@ from laws import READINGS, REJOINED, WRONG, Form, assigned, read, rows, tables, 
 NAMES = {"Add": "bvadd", "Sub": "bvsub", "Mul": "bvmul", "Divu": "bvudiv", "Div": "bvsdiv", "Rem": "bvurem", "Sll": "bvshl", "Srl": "bvlshr",
          "And": "bvand", "Or": "bvor"}
 RELATIONS = {"=": "=", "not": "distinct", "<": "bvult", ">=": "bvuge"}
-SECONDS = 60
+SECONDS = 20
 
 
 def number(n, w):
