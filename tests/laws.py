@@ -26,22 +26,26 @@ LIMITS = [0, 1, 2, 3, 31, 32, 33, 62, 63, 64, 65, 2**32, 2**63 - 1, 2**63, 2**63
 WRONG_ANSWERS = 2  # of each operator's kept answers, deliberately
 NOT_UNDERSTOOD = "not understood"
 REJOINED = "Add (Mul (Divu x 0) 0) (Rem x 0) = x"
+BY_ZERO = "(x : ℕ) → x < 2 ^ 64 → (rejoined f x 0 ≡ x) ↔ Regained how x"
+BELOW = "(x y : ℕ) → x < n → y < n → f x y < n"
 
-# What must be found wrong. Laws: one that is none, one past its limit, one that needs its condition. No laws: a law, a wrong value, operands that are
-# not the smallest. By 0: a dividend too many, and too few.
+# What must be found wrong. Laws: some that are none, one past its limit, one that needs its condition. No laws: a law, a wrong value, operands that
+# are not the smallest. By 0: too many dividends, and too few.
 WRONG = {
     "law": """`Sub x y = Sub y x` | | x = 1, y = 1: 0 | wrong
         `Sll (Sll x p) q = 0` | p + q >= 63 | x = 1, p = 32, q = 32: 0 | wrong
         `Add (Mul (Divu x y) y) (Rem x y) = x` | | x = 7, y = 2: 7 | wrong""",
+    "law at each width": """`And x y = Or x y` | | x = 1, y = 1: 1 | wrong""",
     "no law": """`Mul x y = Mul y x` | | x = 1, y = 1 | 1 | 1 | wrong
-        `Sll (Srl x p) p = x` | p < 64 | x = 1, p = 1 | 0 | 0 | wrong
+        `Sll (Srl x p) p = x` | p < 64 | x = 1, p = 1 | 0 | 2 | wrong
         `Sll (Srl x p) p = x` | p < 64 | x = 3, p = 1 | 2 | 3 | wrong""",
     "reading": """the Rust's | always | x = 2^64 - 1: 2^64 - 1
         the standard's | x = 2^64 - 1 | x = 0: 0""",
 }
-# Here alone: an example with another value, one with an operand too many, what is no term, and what is no condition.
+# Not for Z3: an example with another value, with an operand too many, with what is no word; what is no term; what is no condition.
 WRONG_TEXT = """`Add x y = Add y x` | | x = 3, y = 5: 9 | wrong
     `Add x y = Add y x` | | x = 3, y = 5, z = 5: 8 | wrong
+    `Add x y = Add y x` | | x = 2^64 + 3, y = 5: 8 | wrong
     `Sub (Add x y z) = Sub x (Add y z)` | | x = 0, y = 0, z = 0: 0 | wrong
     `Add ~x y = Add y x` | | x = 3, y = 5: 8 | wrong
     `Add x y = Add y x` | x > 2 | x = 3, y = 5: 8 | wrong"""
@@ -118,7 +122,9 @@ def operands_of(text):
 
 
 def assigned(text, w):
-    return {name: value(term, w) for name, term in operands_of(text).items()}
+    at = {name: value(term, w) for name, term in operands_of(text).items()}
+    assert all(0 <= number < 2**w for number in at.values()), f"'{text}' has an operand that is too large"
+    return at
 
 
 class Form:
@@ -167,15 +173,17 @@ def judge_law(text, where, example, _):
 
 
 def judge_no_law(text, where, operands, left, right, _):
-    form, stated = Form(text, where), [value(read(side), 64) for side in (left, right)]
+    form, at, stated = Form(text, where), assigned(operands, 64), [value(read(side), 64) for side in (left, right)]
+    assert stated[0] != stated[1] and form.claims(64, at), "its operands are none at which it fails"
     for how in READINGS.values():
-        assert form.values(64, how, assigned(operands, 64)) == stated, f"gives {form.values(64, how, assigned(operands, 64))}"
+        assert form.values(64, how, at) == stated, f"gives {form.values(64, how, at)}"
         for w in SMALL[len(form.names)]:
             assert form.failing(w, how) == assigned(operands, w), f"fails first at {form.failing(w, how)} at width {w}"
 
 
 def judge_by_zero(reading, where, example):
     how, form, (operands, number) = READINGS[reading], Form(REJOINED, where), example.split(":")
+    assert list(assigned(operands, 64)) == form.names, "its example has other operands"
     for w in SMALL[1] + (64,):
         for at in form.operands(w):
             left, right = form.values(w, how, at)
@@ -183,7 +191,7 @@ def judge_by_zero(reading, where, example):
     assert form.values(64, how, assigned(operands, 64))[0] == value(read(number), 64), "its example has another value"
 
 
-JUDGES = {"law": judge_law, "no law": judge_no_law, "reading": judge_by_zero}
+JUDGES = {"law": judge_law, "law at each width": judge_law, "no law": judge_no_law, "reading": judge_by_zero}
 
 
 def fault(judge, row):
@@ -198,7 +206,7 @@ def fault(judge, row):
 
 
 def rows(text):
-    return [[cell.strip() for cell in re.split(r"\|", line.strip().removeprefix("|").removesuffix("|"))] for line in text.splitlines()]
+    return [[cell.strip() for cell in line.strip().removeprefix("|").removesuffix("|").split("|")] for line in text.splitlines()]
 
 
 def tables():
@@ -226,17 +234,21 @@ def in_words_of_the_page(kind):
 
 
 def stated_laws():
-    """What the fields of `Laws` state, by name."""
+    """What the fields of `Laws` state, by the table that they belong to and their name."""
+    found = {"law": {}, "law at each width": {}}
     rejoined = re.search(r"\nrejoined f x y = (.*)", (SPECS / "Laws.antt").read_text())[1]
     for name, kind in fields("Laws.antt", "Laws").items():
-        part = re.search(r"(Rearranges \(2 \^ \w+\)|Shifts) (?:\(f (\w+)\)|([gh]))$", kind)
-        if part:
-            each = part[2] or {"g": "And", "h": "Or"}[part[3]]
-            for inner, law in fields("Laws.antt", part[1].split()[0]).items():
+        words = re.fullmatch(r"(Rearranges|Shifts)(?: \(2 \^ 64\))? \(f (\w+)\)", kind)
+        widths = re.fullmatch(r"\(w : ℕ\) → w ≤ 64 → (Rearranges) \(2 \^ w\) ([gh])", kind)
+        if words or widths:
+            record, each = (words or widths).groups()
+            for inner, law in fields("Laws.antt", record).items():
+                law = re.sub(r"\bf\b", {"g": "And", "h": "Or"}.get(each, each), law)
                 if inner != "below":
-                    yield f"{name} .{inner}", in_words_of_the_page(re.sub(r"\bf\b", each, law))
+                    found["law" if words else "law at each width"][f"{name} .{inner}"] = in_words_of_the_page(law)
         elif name != "by-zero":
-            yield name, in_words_of_the_page(re.sub(r"\bf (?=[A-Z])", "", kind.replace("rejoined f x y", rejoined)))
+            found["law"][name] = in_words_of_the_page(re.sub(r"\bf (?=[A-Z])", "", kind.replace("rejoined f x y", rejoined)))
+    return found
 
 
 def stated_no_laws():
@@ -254,22 +266,31 @@ def put(term, operands):
     return operands.get(term, term)
 
 
-def untied(found):
-    """Lines of the page that say something else than the definitions, and fields that have no line."""
-    laws = {name: (form.strip("`"), where) for form, where, _, name in found["law"]}
-    others = {}
+def of_the_page(found):
+    """What the page says, by table and name, in the form of what is stated."""
+    page = {head: {name: (form.strip("`"), where) for form, where, _, name in found[head]} for head in ("law", "law at each width")}
+    page["no law"] = {}
     for form, where, operands, left, right, name in found["no law"]:
         sides = zip(Form(form, where).sides, (left, right))
-        others[name] = [(put(side, operands_of(operands)), value(read(n), 64)) for side, n in sides if isinstance(side, tuple)]
-    zero = {READINGS[reading]: where for reading, where, _ in found["reading"]}
+        page["no law"][name] = [(put(side, operands_of(operands)), value(read(n), 64)) for side, n in sides if isinstance(side, tuple)]
+    page["reading"] = {READINGS[reading]: where for reading, where, _ in found["reading"]}
+    return page
+
+
+def untied(found):
+    """Lines of the page that say something else than the definitions, and fields that have no line."""
     regained = dict(re.findall(r"\nRegained (\w+) x = (.*)", (SPECS / "Laws.antt").read_text()))
     regained = {how: "always" if kind == "Unit" else in_words_of_the_page(kind)[0] for how, kind in regained.items()}
-    if sum(map(len, found.values())) != len(laws) + len(others) + len(zero):
-        yield "docs/LAWS.md has a name twice"
-    for page, stated in ((laws, dict(stated_laws())), (others, dict(stated_no_laws())), (zero, regained)):
-        for name in sorted(set(page) | set(stated)):
-            if page.get(name) != stated.get(name):
-                yield f"{name}: docs/LAWS.md has {page.get(name)}, the definition {stated.get(name)}"
+    stated, page = {**stated_laws(), "no law": dict(stated_no_laws()), "reading": regained}, of_the_page(found)
+    for head in JUDGES:
+        if len(found[head]) != len(page[head]):
+            yield f"docs/LAWS.md has a name twice, in the table of {head}"
+        for name in sorted(set(page[head]) | set(stated[head])):
+            if page[head].get(name) != stated[head].get(name):
+                yield f"{name}: docs/LAWS.md has {page[head].get(name)}, the definition {stated[head].get(name)}"
+    for record, name, kind in (("Laws", "by-zero", BY_ZERO), ("Rearranges", "below", BELOW)):
+        if fields("Laws.antt", record).get(name) != kind:
+            yield f"{name}: docs/LAWS.md means '{kind}', the definition is '{fields('Laws.antt', record).get(name)}'"
 
 
 def without(found, head, row):
@@ -328,7 +349,7 @@ def main():
         print(f"laws: docs/LAWS.md has tables of {', '.join(found) or 'nothing'}, not of {', '.join(JUDGES)}")
         return 1
     lines = [(JUDGES[head], row) for head in JUDGES for row in found[head]]
-    examples = [[text, operands] for text, _, operands, *_ in found["law"] + found["no law"]]
+    examples = [[text, operands] for head in JUDGES if head != "reading" for text, _, operands, *_ in found[head]]
     examples += [[REJOINED, operands] for _, _, operands in found["reading"]]
     lines += [(judge_folded, [program, *example]) for program in sys.argv[1:] for example in examples]
     lost = [f"{' | '.join(row)}: {told}" for judge, row in lines for told in [fault(judge, row)] if told]
@@ -338,7 +359,8 @@ def main():
     wrong = [(JUDGES[head], row) for head in JUDGES for row in rows(WRONG[head])] + [(judge_law, row) for row in rows(WRONG_TEXT)]
     lost += [f"not found wrong: {' | '.join(row)}" for judge, row in wrong if fault(judge, row) in (None, NOT_UNDERSTOOD)] + kept_answers()
     print(*lost, sep="\n", end="\n" if lost else "")
-    print(f"laws: {len(found['law'])} laws, {len(found['no law'])} that are none, {len(lines)} lines judged, {len(lost)} wrong")
+    laws = len(found["law"]) + len(found["law at each width"])
+    print(f"laws: {laws} laws, {len(found['no law'])} that are none, {len(lines)} lines judged, {len(lost)} wrong")
     return 1 if lost else 0
 
 

@@ -2,7 +2,7 @@
 """docs/LAWS.md, judged by Z3: each law for all operands of 64 bits, in both readings; by 0 exactly where the page says; what is no law at its
 operands, and that no smaller ones would do. What Z3 does not decide at 64 bits in 20 s is put to it at 16, then at 8. The wrong lines that
 tests/laws.py keeps are put to it too, and it must find each wrong in one of the readings.
-    tests/laws_by_z3.py        a line for each line; the exit status is 0 if Z3 agrees with all; five minutes
+    tests/laws_by_z3.py        says of each whether Z3 agrees; the exit status is 0 if it does with all; five minutes
 The gate does not run this: it needs z3 on the PATH."""
 import functools
 import subprocess
@@ -11,8 +11,8 @@ import sys
 sys.dont_write_bytecode = True
 from laws import READINGS, REJOINED, WRONG, Form, assigned, read, rows, tables, value  # noqa: E402
 
-NAMES = {"Add": "bvadd", "Sub": "bvsub", "Mul": "bvmul", "Divu": "bvudiv", "Div": "bvsdiv", "Rem": "bvurem", "Sll": "bvshl", "Srl": "bvlshr",
-         "And": "bvand", "Or": "bvor"}
+FUNCTIONS = {"Add": "bvadd", "Sub": "bvsub", "Mul": "bvmul", "Divu": "bvudiv", "Div": "bvsdiv", "Rem": "bvurem", "Sll": "bvshl", "Srl": "bvlshr",
+             "And": "bvand", "Or": "bvor"}
 RELATIONS = {"=": "=", "not": "distinct", "<": "bvult", ">=": "bvuge"}
 SECONDS = 20
 
@@ -35,7 +35,7 @@ def applied(name, x, y, w, how):
     if how == "rust" and name == "Div":
         least = f"(and (= {x} {number(2 ** (w - 1), w)}) (= {y} {number(2**w - 1, w)}))"
         return f"(ite (or {by_zero} {least}) {most} (bvsdiv {x} {y}))"
-    return f"({NAMES[name]} {x} {y})"
+    return f"({FUNCTIONS[name]} {x} {y})"
 
 
 def smt(term, w, how):
@@ -91,7 +91,7 @@ def misstated(operands, stated, form, w, how):
 
 def questions(found):
     """For each line its form, the readings it is of, and what no operands may meet."""
-    for text, where, *_ in found["law"]:
+    for text, where, *_ in found["law"] + found["law at each width"]:
         yield Form(text, where), READINGS.values(), fails
     for reading, where, _ in found["reading"]:
         yield Form(REJOINED, where), [READINGS[reading]], differs

@@ -36,17 +36,17 @@ contract Rem = btor-u64-rem.Learnt tt
 contract Sll = btor-u64-sll.Learnt tt
 contract Srl = btor-u64-srl.Learnt tt
 
-equal : (f : Op → ℕ → ℕ → ℕ) → ((op : Op) → Meets (contract op) (f op)) → (op : Op) (x y : ℕ) → x < 2 ^ 64 → y < 2 ^ 64 → f op x y ≡ compute rust op x y
-equal f m Add = m Add
-equal f m Sub = m Sub
-equal f m Mul = m Mul
-equal f m Divu = m Divu
-equal f m Div = m Div
-equal f m Rem = m Rem
-equal f m Sll = m Sll
-equal f m Srl = m Srl
+as-computed : (f : Op → ℕ → ℕ → ℕ) → ((op : Op) → Meets (contract op) (f op)) → (op : Op) (x y : ℕ) → x < 2 ^ 64 → y < 2 ^ 64 → f op x y ≡ compute rust op x y
+as-computed f m Add = m Add
+as-computed f m Sub = m Sub
+as-computed f m Mul = m Mul
+as-computed f m Divu = m Divu
+as-computed f m Div = m Div
+as-computed f m Rem = m Rem
+as-computed f m Sll = m Sll
+as-computed f m Srl = m Srl
 
 pub laws-in-code : (f : Op → ℕ → ℕ → ℕ) (g h : ℕ → ℕ → ℕ)
     → ((op : Op) → Meets (contract op) (f op)) → Meets (and.Learnt tt) g → Meets (or.Learnt tt) h → Laws rust f g h
 unfolding LawsHold
-laws-in-code f g h m a o = laws-hold rust f g h (record { on = equal f m; and = a; or = o })
+laws-in-code f g h m a o = laws-hold rust f g h (record { on = as-computed f m; and = a; or = o })

@@ -1,7 +1,7 @@
 -- The laws by which those who write models may rearrange operators, in both readings (docs/LAWS.md). The proofs stand in proofs/Laws.antt.
 --     Rearranges   Add, Mul, And and Or commute and associate       Shifts     two shifts are one by the sum of their distances
 --     rejoined     Divu times divisor plus Rem                      Regained   the dividends that this gives back where the divisor is 0
---     Follows      functions that answer on words as the operators do, as the operators themselves and, by their contracts, the code's functions
+--     Follows      functions that answer on words as the operators do: the operators themselves and, by their contracts, the code's functions
 --     LawsHold     what follows the operators obeys their laws
 -- Assumes nothing.
 use Prim.Native.Nat.{ℕ, _+_, _-_, _^_, _<_, _≤_}
