@@ -2,10 +2,10 @@
 -- caller may cite of their answers. A change of a contract in operators.rt is a change of what stands before the arrows here.
 -- Assumes nothing.
 use Prim.Native.Nat.{ℕ, _^_, _<_}
-use mathlib.Core.Path.{_≡_}
+use mathlib.Core.Path.{_≡_, ap, _∙_}
 use Rattle.btor.specs.Operators.{Op, Add, Sub, Mul, Divu, Div, Rem, Sll, Srl, rust, compute}
 use Rattle.btor.specs.Laws.{Laws, LawsHold}
-use Rattle.btor.proofs.Laws.{laws-hold}
+use Rattle.btor.proofs.Laws.{operator-laws, laws-hold}
 use Rattle.btor.proofs.operators.wrapping_add.Reads as wrapping-add
 use Rattle.btor.proofs.operators.wrapping_sub.Reads as wrapping-sub
 use Rattle.btor.proofs.operators.wrapping_mul.Reads as wrapping-mul
@@ -50,3 +50,9 @@ pub laws-in-code : (f : Op → ℕ → ℕ → ℕ) (g h : ℕ → ℕ → ℕ)
     → ((op : Op) → Meets (contract op) (f op)) → Meets (and.Learnt tt) g → Meets (or.Learnt tt) h → Laws rust f g h
 unfolding LawsHold
 laws-in-code f g h m a o = laws-hold rust f g h (record { on = as-computed f m; and = a; or = o })
+
+-- a law cited by a caller: of `wrapping_add` and then `wrapping_sub`, what their contracts say of the sum and of the difference
+pub sum-undone : (x y sum difference : ℕ) → x < 2 ^ 64 → y < 2 ^ 64
+    → contract Add (x, (y, tt)) sum (x, (y, tt)) → contract Sub (sum, (y, tt)) difference (sum, (y, tt)) → difference ≡ x
+sum-undone x y sum difference hx hy added subtracted =
+    subtracted ∙ ap (λ (n : ℕ). compute rust Sub n y) added ∙ operator-laws rust .sub-undoes-add x y hx hy
