@@ -198,7 +198,7 @@ def fault(judge, row):
     """What is wrong with a line, or nothing."""
     try:
         judge(*row)
-    except AssertionError as found:
+    except (AssertionError, OSError) as found:
         return str(found)
     except (IndexError, KeyError, TypeError, ValueError):
         return NOT_UNDERSTOOD

@@ -51,7 +51,7 @@ pub laws-in-code : (f : Op → ℕ → ℕ → ℕ) (g h : ℕ → ℕ → ℕ)
 unfolding LawsHold
 laws-in-code f g h m a o = laws-hold rust f g h (record { on = as-computed f m; and = a; or = o })
 
--- a law cited by a caller: of `wrapping_add` and then `wrapping_sub`, what their contracts say of the sum and of the difference
+-- a law cited by who calls `wrapping_add` and then `wrapping_sub`: the last two premises are what the two contracts tell
 pub sum-undone : (x y sum difference : ℕ) → x < 2 ^ 64 → y < 2 ^ 64
     → contract Add (x, (y, tt)) sum (x, (y, tt)) → contract Sub (sum, (y, tt)) difference (sum, (y, tt)) → difference ≡ x
 sum-undone x y sum difference hx hy added subtracted =
