@@ -91,26 +91,25 @@ enum {
     GEMTWEED_VERDICT_ALL_REMOVED
 };
 
-/* The number of an answer. */
+/* The number of an answer. 9 is not used. */
 enum {
     GEMTWEED_ACCEPTED = 0,
-    GEMTWEED_REFUSED_SHORT = 1,          /* a section is short, or something is left over; or a mode above 7 (section 0) */
-    GEMTWEED_REFUSED_OVER_LIMIT,         /* a count or a name's length */
-    GEMTWEED_REFUSED_MALFORMED,          /* an unknown kind or sort, a word that must be 0, or a name rule broken */
-    GEMTWEED_REFUSED_OPERAND_NOT_BEFORE, /* its node */
-    GEMTWEED_REFUSED_SORTS,              /* a node's sorts do not fit, or its number; or an operand is a Next, a Bad or no State */
-    GEMTWEED_REFUSED_ENTRY,              /* past the table, of the wrong kind, or a Next whose state has no init */
-    GEMTWEED_REFUSED_SECOND_SEQUENTIAL,  /* for one state */
-    GEMTWEED_REFUSED_MEMORY_INPUT,       /* a memory State would take an input */
-    GEMTWEED_REFUSED_REPLACED_STATE,     /* of a kept Next; this does not happen */
-    GEMTWEED_REFUSED_INPUT_TOO_WIDE,     /* for its state */
-    GEMTWEED_REFUSED_REPLY,              /* one that its question cannot have */
-    GEMTWEED_REFUSED_NO_ROOM,            /* in result (position 0), else in scratch (1) */
-    GEMTWEED_REFUSED_ALWAYS_TRUE,        /* a bad state, under terminate */
-    GEMTWEED_REFUSED_SATISFIABLE = 14    /* a bad state, under terminate */
+    GEMTWEED_REFUSED_SHORT = 1,           /* a section is short, or something is left over; or a mode above 7 (section 0) */
+    GEMTWEED_REFUSED_OVER_LIMIT,          /* a count or a name's length */
+    GEMTWEED_REFUSED_MALFORMED,           /* an unknown kind or sort, a word that must be 0, or a name rule broken */
+    GEMTWEED_REFUSED_OPERAND_NOT_BEFORE,  /* its node */
+    GEMTWEED_REFUSED_SORTS,               /* a node's sorts do not fit, or its number; or an operand is a Next, a Bad or no State */
+    GEMTWEED_REFUSED_ENTRY,               /* past the table, of the wrong kind, or a Next whose state has no init */
+    GEMTWEED_REFUSED_SECOND_SEQUENTIAL,   /* for one state */
+    GEMTWEED_REFUSED_MEMORY_INPUT,        /* a memory State would take an input */
+    GEMTWEED_REFUSED_INPUT_TOO_WIDE = 10, /* for its state */
+    GEMTWEED_REFUSED_REPLY,               /* one that its question cannot have */
+    GEMTWEED_REFUSED_NO_ROOM,             /* in result (position 0), else in scratch (1) */
+    GEMTWEED_REFUSED_ALWAYS_TRUE,         /* a bad state, under terminate */
+    GEMTWEED_REFUSED_SATISFIABLE = 14     /* a bad state, under terminate */
 };
 
-/* What a fold answers. number 0: accepted, and the result has so many words. Else a refusal, from 1 to 14, with its section and position. */
+/* What a fold answers. number 0: accepted, and the result has so many words. Else a refusal, one of those above, with its section and position. */
 typedef struct {
     uint64_t number;
     uint64_t section;

@@ -386,6 +386,50 @@ for value in (0, 1):
           left(before + [node(ITE, BIT, 7 + value, *chosen), node(BAD, BIT, 7), node(STATE, BIT), node(BAD, BIT, 9)],
                made=[(BIT, 1)], replaced=[(0, 7 + value), (1, 7), (3, 7), (5, 9)], bads=[6], taken=1))
 
+# --- a kept Next visits its state, and below that an input is taken and a question put: the Ult is the init of 3, whose Next is 5
+
+KEPT = [A_WORD, node(STATE, WORD), node(ULT, BIT, 0, 1), node(STATE, BIT, 2, 1), node(CONST, BIT, 1), node(NEXT, BIT, 3, 4)]
+OPEN_INIT = [(ALWAYS_TRUE, 2, 0, 0), (ALWAYS_FALSE, 2, 0, 0)]
+
+
+def next_kept(taken, init):
+    """The rows after it: what stands for the state 1, and for the init."""
+    return [A_WORD, node(STATE, WORD), node(ULT, BIT, 0, taken), node(STATE, BIT, init, 1), node(CONST, BIT, 1),
+            node(NEXT, BIT, 3, 7)]
+
+
+for mode in range(8):
+    whole('kept_next_visits_its_state_in_mode_%d' % mode, sections(KEPT, [5], inputs=[7]),
+          left(next_kept(8, 2), made=[(WORD, 7)], replaced=[(1, 8), (4, 7)], sequentials=[5],
+               questions=OPEN_INIT if mode & MINIMISE else [], taken=1,
+               verdict=REMOVED_ALL if mode & ONE_QUERY else NOT_ONE_QUERY), A_NAME, mode)
+whole('kept_next_with_an_init_that_is_true', sections(KEPT, [5], inputs=[7], replies=[1]),
+      left(next_kept(8, 7), made=[(WORD, 7)], replaced=[(1, 8), (2, 7), (4, 7)], sequentials=[5],
+           questions=[(ALWAYS_TRUE, 2, 0, 1)], taken=1, used=1), A_NAME, MINIMISE)
+whole('kept_next_with_an_init_that_is_true_by_with_solver', sections(KEPT, [5], inputs=[7], replies=[1]),
+      left(next_kept(1, 7), replaced=[(2, 7), (4, 7)], sequentials=[5], questions=[(ALWAYS_TRUE, 2, 0, 1)], used=1), A_NAME,
+      MINIMISE, WITH_SOLVER)
+whole('kept_next_visits_its_state_by_with_input', sections(KEPT, [5], inputs=[7], replies=[1]),
+      left(next_kept(8, 2), made=[(WORD, 7)], replaced=[(1, 8), (4, 7)], sequentials=[5], taken=1), A_NAME, entry=WITH_INPUT)
+whole('reply_2_below_the_state_of_a_kept_next', sections(KEPT, [5], inputs=[7], replies=[0, 2]), refused(11, 6, 1), A_NAME,
+      MINIMISE)
+for sort, number, answer in ((BIT, 2, refused(10, 1, 0)), (MEMORY, 0, refused(8, 1, 0))):
+    whole('refusal_%d_below_the_state_of_a_kept_next' % answer[0],
+          sections([node(STATE, sort), node(STATE, sort, 0, 1), node(STATE, sort), node(NEXT, sort, 1, 2)], [3],
+                   inputs=[number]), answer)
+# the two ways to a replaced state are refused before the walk: a second Next of a state whose first is dropped, and a state without an init
+TWO_NEXTS = [node(CONST, WORD, 3), node(STATE, WORD, 0, 1), node(CONST, WORD, 5), node(NEXT, WORD, 1, 1),
+             node(NEXT, WORD, 1, 2)]
+NO_INIT = [node(STATE, WORD), node(CONST, WORD, 5), node(NEXT, WORD, 0, 1)]
+for mode in range(8):
+    whole('dropped_and_second_next_in_mode_%d' % mode, sections(TWO_NEXTS, [3, 4]), refused(7, 2, 1), mode=mode)
+    whole('kept_and_second_next_in_mode_%d' % mode, sections(TWO_NEXTS, [4, 3]), refused(7, 2, 1), mode=mode)
+    whole('next_of_a_state_without_init_in_mode_%d' % mode, sections(NO_INIT, [2], inputs=[7]), refused(6, 2, 0), mode=mode)
+for entry_name, entry in (('with_solver', WITH_SOLVER), ('with_input', WITH_INPUT)):
+    whole('dropped_and_second_next_by_%s' % entry_name, sections(TWO_NEXTS, [3, 4]), refused(7, 2, 1), entry=entry)
+    whole('next_of_a_state_without_init_by_%s' % entry_name, sections(NO_INIT, [2], inputs=[7]), refused(6, 2, 0),
+          entry=entry)
+
 # --- one-query: Bad 1 and Bad 5 are open, Bad 3 never holds, Bad 7 always does
 
 ASKED = [A_BIT, node(BAD, BIT, 0), node(CONST, BIT, 0), node(BAD, BIT, 2), A_BIT, node(BAD, BIT, 4), node(CONST, BIT, 1),
@@ -522,6 +566,10 @@ wrong_calls = [
     wrong_call('refused_as_accepted', 'empty_result_21_by_impl', DONE),
     wrong_call('refused_number_alone_as_accepted', 'mode_8_by_impl', DONE),
     wrong_call('refused_as_accepted_with_words', 'empty_result_21_by_impl', DONE, EMPTY_WORDS),
+    # the refusal that is withdrawn, and a kept Next that does not visit its state
+    wrong_call('refused_9', 'kept_next_visits_its_state_in_mode_0', (9, 1, 5)),
+    wrong_call('state_not_visited', 'kept_next_visits_its_state_in_mode_0', DONE,
+               flat(left(KEPT[:5] + [node(NEXT, BIT, 3, 7)], replaced=[(4, 7)], sequentials=[5], inputs=[7]))),
 ]
 
 

@@ -10,7 +10,7 @@ pub enum Buffer {
     Scratch,
 }
 
-/// Why a call is refused, and where. Each case has a number from 1 to 14; lists and places count from 0, sections from 1.
+/// Why a call is refused, and where. Each case has a number from 1 to 14, none has 9; lists and places count from 0, sections from 1.
 #[derive(Clone, Copy, Debug, PartialEq, Eq, Hash)]
 pub enum Refusal {
     /// 1: a mode above 7.
@@ -31,8 +31,6 @@ pub enum Refusal {
     SecondSequential { place: u64 },
     /// 8: a memory State would take an input.
     MemoryInput { node: u64 },
-    /// 9: a kept Next's state is replaced. This does not happen.
-    ReplacedState { node: u64 },
     /// 10: an input is too wide for its state.
     InputTooWide { node: u64 },
     /// 11: a reply that its question cannot have.
@@ -46,7 +44,7 @@ pub enum Refusal {
 }
 
 impl Refusal {
-    /// From 1 to 14.
+    /// From 1 to 14, and never 9.
     pub fn number(self) -> u64 {
         match self {
             Refusal::Mode | Refusal::Short { .. } => 1,
@@ -57,7 +55,6 @@ impl Refusal {
             Refusal::Entry { .. } => 6,
             Refusal::SecondSequential { .. } => 7,
             Refusal::MemoryInput { .. } => 8,
-            Refusal::ReplacedState { .. } => 9,
             Refusal::InputTooWide { .. } => 10,
             Refusal::Reply { .. } => 11,
             Refusal::NoRoom { .. } => 12,
@@ -90,7 +87,6 @@ impl Refusal {
             | Refusal::OperandNotBefore { node }
             | Refusal::Sorts { node }
             | Refusal::MemoryInput { node }
-            | Refusal::ReplacedState { node }
             | Refusal::InputTooWide { node } => node,
             Refusal::Entry { place, .. }
             | Refusal::SecondSequential { place }
@@ -115,7 +111,6 @@ impl Refusal {
             6 => Refusal::Entry { section, place },
             7 => Refusal::SecondSequential { place },
             8 => Refusal::MemoryInput { node },
-            9 => Refusal::ReplacedState { node },
             10 => Refusal::InputTooWide { node },
             11 => Refusal::Reply { place },
             12 if place == 0 => Refusal::NoRoom { buffer: Buffer::Result },
@@ -171,7 +166,6 @@ impl fmt::Display for Refusal {
                 write!(f, "{named}, entry {place}: a second Next for one state")
             }
             Refusal::MemoryInput { .. } => write!(f, "node {place}: a memory would take an input"),
-            Refusal::ReplacedState { .. } => write!(f, "node {place}: its state is replaced"),
             Refusal::InputTooWide { .. } => write!(f, "node {place}: its input is too wide"),
             Refusal::Reply { .. } => write!(f, "reply {place}: not one that its question can have"),
             Refusal::NoRoom { buffer: Buffer::Result } => write!(f, "result: too little room"),

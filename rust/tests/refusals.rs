@@ -1,4 +1,4 @@
-// A refusal of every number but 9, which does not happen: the case, its numbers, its words, and both buffers 0.
+// A refusal of every number, from 1 to 14 without 9: the case, its numbers, its words, and both buffers 0.
 
 use gemtweed::*;
 
@@ -168,6 +168,30 @@ fn takes(sort: Sort, input: u64) -> Table {
 #[test]
 fn number_8() {
     refused(0, &takes(Sort::Memory, 1), [8, 1, 0], "node 0: a memory would take an input");
+}
+
+// A refusal of each case: the numbers are those of FORMAT's table.
+#[test]
+fn number_9_is_not_used() {
+    let (node, place, section) = (0, 0, 3);
+    let each = [
+        Refusal::Short { section },
+        Refusal::OverLimit { section },
+        Refusal::Malformed { node },
+        Refusal::OperandNotBefore { node },
+        Refusal::Sorts { node },
+        Refusal::Entry { section, place },
+        Refusal::SecondSequential { place },
+        Refusal::MemoryInput { node },
+        Refusal::InputTooWide { node },
+        Refusal::Reply { place },
+        Refusal::NoRoom { buffer: Buffer::Result },
+        Refusal::AlwaysTrue { section, place },
+        Refusal::Satisfiable { section, place },
+    ];
+    let listed: Vec<u64> = (1..=14).filter(|number| *number != 9).collect();
+    assert_eq!(each.map(Refusal::number).to_vec(), listed);
+    assert_eq!(Refusal::Mode.number(), 1);
 }
 
 #[test]

@@ -1,5 +1,5 @@
-/* The names of gemtweed.h: each kind computes what it is called, each sort, limit and mode is tried at its own value, each refusal but
- * 9, which does not happen, is drawn, and what is asked and tallied has its name. Prints how many checks there were, and each that fails. */
+/* The names of gemtweed.h: each kind computes what it is called, each sort, limit and mode is tried at its own value, each refusal is
+ * drawn, and what is asked and tallied has its name. Prints how many checks there were, and each that fails. */
 #include "gemtweed.h"
 #include <stdio.h>
 #include <string.h>

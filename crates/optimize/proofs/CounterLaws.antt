@@ -2,10 +2,11 @@
 -- Assumes nothing.
 use Prim.Native.Nat.{ℕ, zero, suc, _<_}
 use mathlib.Core.Path.{_≡_, refl, ap, sym, _∙_}
+use mathlib.Core.Logic.{_≢_}
 use mathlib.Core.Bool.{Bool, true, false, not}
 use mathlib.Core.List.{List, [], _∷_}
 use native.Mathlib.Omega.{arith}
-use borrow.Author.Tests.{ne-eqb}
+use borrow.Author.Tests.{ne-eqb, eqb-true, eqb-false}
 use lib.ListN.{getD, List·getD-eq-default}
 use lib.Dec.{eqb}
 use Rattle.rules.specs.Refusal as rules
@@ -47,7 +48,6 @@ found-again (Refusal.Sorts p) = refl
 found-again (Refusal.Entry s p) = refl
 found-again (Refusal.SecondSequential p) = refl
 found-again (Refusal.MemoryInput p) = refl
-found-again (Refusal.ReplacedState p) = refl
 found-again (Refusal.InputTooWide p) = refl
 found-again (Refusal.Reply p) = refl
 found-again Refusal.ResultRoom = refl
@@ -58,11 +58,15 @@ found-again (Refusal.Satisfiable s p) = refl
 pub room-is : (p : ℕ) (b : Bool) → eqb p 0 ≡ b → elim b [ true ↦ Refusal.ResultRoom | false ↦ Refusal.ScratchRoom ] ≡ roomAt p
 room-is p b e = sym (ap (λ t. elim t [ true ↦ Refusal.ResultRoom | false ↦ Refusal.ScratchRoom ]) e)
 
--- no refusal has another number
-pub refusal-none : (s p n : ℕ) → ((0 < n) × (n < 15) → ⊥) → refusalBy n s p ≡ Refusal.Mode
+-- no refusal has another number, and none has 9
+pub refusal-none : (s p n : ℕ) → ((0 < n) × (n < 15) → n ≢ 9 → ⊥) → refusalBy n s p ≡ Refusal.Mode
 unfolding refusalBy
 refusal-none s p zero h = refl
-refusal-none s p (suc n) h = inside-or-past _ (suc n) 15 (λ l. absurd (h (omega arith, l))) (λ l. List·getD-eq-default (refusalsAt s p) Refusal.Mode {n = suc n} l)
+refusal-none s p (suc n) h = inside-or-past _ (suc n) 15 (λ l. nine (eqb (suc n) 9) refl l) (λ l. List·getD-eq-default (refusalsAt s p) Refusal.Mode {n = suc n} l)
+  where
+    nine : (b : Bool) → eqb (suc n) 9 ≡ b → suc n < 15 → getD (refusalsAt s p) (suc n) Refusal.Mode ≡ Refusal.Mode
+    nine true e l = ap (λ m. getD (refusalsAt s p) m Refusal.Mode) (eqb-true (suc n) 9 e)
+    nine false e l = absurd (h (omega arith, l) (eqb-false (suc n) 9 e))
 
 -- ---- a walk or a refusal put into the counters
 pub refusal-words : (C : List ℕ) (z : rules.Refusal) (n s p : ℕ) → n ≡ z .reason → s ≡ z .section → p ≡ z .position

@@ -1,20 +1,19 @@
 -- What comes after a node's operands: it is finished, asked about, takes an input or is forwarded, as the rules say.
 -- Assumes nothing.
-use Prim.Native.Nat.{ℕ, zero, suc, _+_, _<_, _≤_}
+use Prim.Native.Nat.{ℕ, suc, _+_, _<_, _≤_}
 use mathlib.Core.Path.{_≡_, refl, ap, sym, _∙_, subst}
 use mathlib.Core.Bool.{Bool, true, false}
 use mathlib.Core.Option.{Option}
 use mathlib.Core.List.{List, [], _∷_, _++_}
 use native.Mathlib.Numerals.{add-one}
-use native.Mathlib.Omega.{arith}
 use lib.ListN.{length, getD, drop, drop-of-length-le, List·getD-eq-default}
-use lib.Dec.{eqb, ltb}
+use lib.Dec.{eqb}
 use lib.Seq.{drop-cons}
-use borrow.Author.Tests.{eq-eqb, ne-eqb, ltb-true, ltb-false}
+use borrow.Author.Tests.{eq-eqb, ne-eqb}
 use Rattle.btor.specs.Operators.{rust}
 use Rattle.rules.specs.Refusal.{Out, done, refuse}
 use Rattle.rules.specs.Table.{Kind, fits}
-use Rattle.rules.specs.Walk.{St, fresh, kept, replaced, Held, setInputs, addHeld, addTally}
+use Rattle.rules.specs.Walk.{St, Held, setInputs, addHeld, addTally}
 use Rattle.rules.specs.Fold.{Fold, stays, swap, make, constOf}
 use Rattle.rules.specs.Memory as rules
 use Rattle.rules.specs.Memory.{find, foldFound, passedBy}
@@ -26,10 +25,9 @@ use Rattle.optimize.specs.declared.walk.Visited.{Visited}
 use Rattle.optimize.specs.declared.fold.Constant.{Constant}
 use Rattle.optimize.specs.declared.memory.Found.{Found}
 use Rattle.optimize.specs.declared.memory.Search.{Search}
-use Rattle.optimize.specs.View.{countOf, wordOf, nodeOf, tableOf, rowsOf, markBy, markOf, view, outcomeOf, constantIs, waysIn, Meets}
+use Rattle.optimize.specs.View.{countOf, wordOf, nodeOf, tableOf, rowsOf, view, outcomeOf, constantIs, waysIn, Meets}
 use Rattle.optimize.specs.Folding.{foldTwo, asksBit, valueIs, searchIs}
-use Rattle.optimize.specs.Process.{isStays, isRead, hasReplacement, thenAsk, settleThen, bitOf, takeOf, afterOne, afterTwo, foldedTwo, afterIte}
-use Rattle.optimize.proofs.Views.{mark-below}
+use Rattle.optimize.specs.Process.{isStays, isRead, thenAsk, settleThen, bitOf, takeOf, afterOne, afterTwo, foldedTwo, afterIte}
 use Rattle.optimize.proofs.Steps.{table-length}
 use Rattle.optimize.proofs.Asks.{is-stay, chain-bit-more, chain-two}
 
@@ -194,25 +192,3 @@ module _ (h : List Held) (g inputs dumps reps reps′ R S : List ℕ) (w : Walk)
 pub take-by : (h : List Held) (g ins ins′ reps R S : List ℕ) (w : Walk) (ways : Ways) (k : ℕ) (r : Visited) (R′ S′ : List ℕ) → ins ≡ ins′
     → Meets g ins reps r R′ S′ (takeOf g ways (view h g ins reps R S w) k) → Meets g ins′ reps r R′ S′ (takeOf g ways (view h g ins′ reps R S w) k)
 take-by h g ins ins′ reps R S w ways k r R′ S′ e m = subst (λ t. Meets g t reps r R′ S′ (takeOf g ways (view h g t reps R S w) k)) e m
-
--- ---- a mark that says replaced
-has-replacement : (n : ℕ) (S : List ℕ) (k : ℕ) → k < n → 1 < getD S k 0 → true ≡ hasReplacement (markOf n S k)
-has-replacement n S k l h =
-    sym (ap hasReplacement (mark-below n S k l)
-    ∙ ap (λ t. hasReplacement (elim t [ true ↦ fresh | false ↦ elim (eqb (getD S k 0) 1) [ true ↦ kept | false ↦ replaced (getD S (n + k) 0) ] ])) (ne-eqb (getD S k 0) 0 (λ e. omega arith))
-    ∙ ap (λ t. hasReplacement (elim t [ true ↦ kept | false ↦ replaced (getD S (n + k) 0) ])) (ne-eqb (getD S k 0) 1 (λ e. omega arith)))
-
-no-replacement : (n : ℕ) (S : List ℕ) (k : ℕ) → k < n → getD S k 0 ≤ 1 → false ≡ hasReplacement (markOf n S k)
-no-replacement n S k l h = sym (ap hasReplacement (mark-below n S k l) ∙ go (getD S k 0) h)
-  where
-    go : (m : ℕ) → m ≤ 1 → hasReplacement (markBy m (getD S (n + k) 0)) ≡ false
-    go zero l = refl
-    go (suc zero) l = refl
-    go (suc (suc m)) l = let o : ⊥ = omega arith in absurd o
-
-pub replaced-by : (n : ℕ) (S : List ℕ) (k : ℕ) → k < n → ltb 1 (getD S k 0) ≡ hasReplacement (markOf n S k)
-replaced-by n S k l = go (ltb 1 (getD S k 0)) refl
-  where
-    go : (b : Bool) → ltb 1 (getD S k 0) ≡ b → ltb 1 (getD S k 0) ≡ hasReplacement (markOf n S k)
-    go true e = e ∙ has-replacement n S k l (ltb-true 1 (getD S k 0) e)
-    go false e = e ∙ no-replacement n S k l (ltb-false 1 (getD S k 0) e)

@@ -7,17 +7,17 @@ use mathlib.Core.List.{List, [], _∷_}
 use native.Mathlib.Omega.{arith}
 use lib.ListN.{length}
 use lib.Dec.{eqb}
-use Rattle.rules.specs.Refusal.{Out, refused, done, refuse, _>>=_}
+use Rattle.rules.specs.Refusal.{Out, refused, done, _>>=_}
 use Rattle.rules.specs.Lists.{All}
-use Rattle.rules.specs.Table.{Kind, Const, Read, Write, Word, Ult, Ext, Ite, Eq, And, Or, Not, State, Next, Input, Bad, Node, kindOf, with, nodeAt, operandsAs}
+use Rattle.rules.specs.Table.{Kind, Const, Read, Write, Word, Ult, Ext, Ite, Eq, And, Or, Not, State, Next, Input, Bad, Node, kindOf, nodeAt, operandsAs}
 use Rattle.rules.specs.Legal.{AllLegal}
-use Rattle.rules.specs.Walk.{St, Mark, fresh, kept, replaced, setRow}
+use Rattle.rules.specs.Walk.{St}
 use Rattle.rules.specs.Fold.{stays, constOf}
-use Rattle.rules.specs.Visit.{Ways, Branch, left, right, undecided, branch, notReplaced, visit1, visit2, visit3, unary, binary, iteOn, takeInput, settle, process, visit}
+use Rattle.rules.specs.Visit.{Ways, Branch, left, right, undecided, branch, visit1, visit2, visit3, unary, binary, iteOn, takeInput, process, visit}
 use Rattle.optimize.specs.declared.form.Form.{Form}
 use Rattle.optimize.specs.View.{countOf, wordOf, nodeOf, tableOf, waysIn}
 use Rattle.optimize.specs.Folding.{foldTwo, foldOne, asksBit}
-use Rattle.optimize.specs.Process.{formOf, hasReplacement, afterOne, afterTwo, takeOf, visitOf, processOf, oneOf, twoOf, threeOf, chosenOf, iteOf, valueOf, stepOf, byForm, Before}
+use Rattle.optimize.specs.Process.{formOf, afterOne, afterTwo, takeOf, visitOf, processOf, oneOf, twoOf, threeOf, chosenOf, iteOf, stepOf, byForm, Before}
 use Rattle.optimize.proofs.Steps.{table-length}
 use Rattle.optimize.proofs.Walks.{node-at}
 
@@ -68,15 +68,9 @@ module _ (g dumps replies : List ℕ) (minimise : Bool) (f : ℕ) (σ : St) (k :
   unfolding process
   ite-is = bind-same (visitOf g ways f σ (wordOf g k 2)) _ _ (λ p. chosen-is (branch (constOf (p .0 .rows) (p .1))) (p .1) (p .0))
 
-  replaced-is : (m : Mark) (τ : St) → elim (hasReplacement m) [ true ↦ refuse 9 1 k | false ↦ valueOf g ways f τ k ]
-      ≡ (notReplaced k m τ >>= λ υ. visitOf g ways f υ (wordOf g k 3) >>= λ q. settle (tableOf g) ways k (setRow (q .0) k (with (nodeOf g k) (wordOf g k 2) (q .1) (wordOf g k 4))) stays)
-  replaced-is fresh τ = refl
-  replaced-is kept τ = refl
-  replaced-is (replaced r) τ = refl
-
   step-is : stepOf g ways f σ k ≡ byKind Next
   unfolding process
-  step-is = bind-same (visitOf g ways f σ (wordOf g k 2)) _ _ (λ p. replaced-is (p .0 .mark (wordOf g k 2)) (p .0))
+  step-is = refl
 
   state-is : (b : Bool) → eqb (wordOf g k 3) 1 ≡ b → byForm g ways f (cond b Form.One Form.Free) State σ k ≡ byKind State
   unfolding byForm process unary foldOne

@@ -9,7 +9,7 @@ use native.Mathlib.Omega.{arith}
 use lib.ListN.{getD}
 use lib.Dec.{eqb}
 use borrow.Author.Tests.{ne-eqb}
-use Rattle.rules.specs.Refusal.{Out, refused, done, refuse, _>>=_}
+use Rattle.rules.specs.Refusal.{Out, refused, done, _>>=_}
 use Rattle.rules.specs.Table.{Kind, with, nodeAt, unknown}
 use Rattle.rules.specs.Walk.{St, Mark, fresh, kept, replaced, Held, setRow}
 use Rattle.rules.specs.Fold.{stays, swap, constOf}
@@ -20,7 +20,7 @@ use Rattle.optimize.specs.declared.walk.Walk.{Walk}
 use Rattle.optimize.specs.declared.walk.Visited.{Visited}
 use Rattle.optimize.specs.declared.fold.Constant.{Constant}
 use Rattle.optimize.specs.View.{countOf, wordOf, nodeOf, tableOf, rowsOf, markOf, markBy, view, outcomeOf, constantIs, Meets}
-use Rattle.optimize.specs.Process.{hasReplacement, afterOne, afterTwo, afterIte, visitOf, processOf, oneOf, twoOf, threeOf, leftOf, rightOf, bothOf, chosenOf, iteOf, valueOf, stepOf}
+use Rattle.optimize.specs.Process.{afterOne, afterTwo, afterIte, visitOf, processOf, oneOf, twoOf, threeOf, leftOf, rightOf, bothOf, chosenOf, iteOf, valueOf, stepOf}
 use Rattle.optimize.proofs.Views.{mark-below, firsts-at}
 
 -- ---- outcomes
@@ -148,18 +148,16 @@ module _ (g inputs replies : List ℕ) (ways : Ways) (f k : ℕ) (σ : St) (r : 
       (goes g inputs replies ways f σ₁ r R S Q T b (wordOf g k 3) i _ (σ₂, y) u
       (stops g inputs replies ways f σ₂ r R S Q T c (wordOf g k 4) j _ z m d))
 
-  -- a branch is chosen; the state of a Next is replaced, or not
+  -- a branch is chosen; the next value of a Next comes after its state
   pub ite-go : (a : ℕ) (σ₁ : St) (x : ℕ) (br : Branch) → visitOf g ways f σ a ≡ done (σ₁, x) → a ≡ wordOf g k 2 → branch (constOf (σ₁ .rows) x) ≡ br
       → Meets g inputs replies r Q T (chosenOf g ways f br x σ₁ k) → Meets g inputs replies r Q T (iteOf g ways f σ k)
   ite-go a σ₁ x br v e q m =
       goes g inputs replies ways f σ r R S Q T a (wordOf g k 2) e _ (σ₁, x) v
       (m .0, m .1 ∙ ap (λ z. chosenOf g ways f z x σ₁ k) (sym q))
 
-  step-go : (a : ℕ) (σ₁ : St) (x : ℕ) (t : Bool) → visitOf g ways f σ a ≡ done (σ₁, x) → a ≡ wordOf g k 2 → hasReplacement (σ₁ .mark (wordOf g k 2)) ≡ t
-      → Meets g inputs replies r Q T (elim t [ true ↦ refuse 9 1 k | false ↦ valueOf g ways f σ₁ k ]) → Meets g inputs replies r Q T (stepOf g ways f σ k)
-  step-go a σ₁ x t v e q m =
-      goes g inputs replies ways f σ r R S Q T a (wordOf g k 2) e _ (σ₁, x) v
-      (m .0, m .1 ∙ ap (λ b. elim b [ true ↦ refuse 9 1 k | false ↦ valueOf g ways f σ₁ k ]) (sym q))
+  pub step-go : (a : ℕ) (σ₁ : St) (x : ℕ) → visitOf g ways f σ a ≡ done (σ₁, x) → a ≡ wordOf g k 2
+      → Meets g inputs replies r Q T (valueOf g ways f σ₁ k) → Meets g inputs replies r Q T (stepOf g ways f σ k)
+  step-go a σ₁ x v e m = goes g inputs replies ways f σ r R S Q T a (wordOf g k 2) e _ (σ₁, x) v m
 
 -- ---- the members of the cycle: all visits done, the row put, and what comes after
 module _ (g : List ℕ) (ways : Ways) (f k : ℕ) (σ σ₁ : St) (x a : ℕ) (va : visitOf g ways f σ a ≡ done (σ₁, x)) where
@@ -222,19 +220,6 @@ pub ite-at : (g inputs replies : List ℕ) (ways : Ways) (f k : ℕ) (σ : St) (
     → Meets g inputs replies r R S (chosenOf g ways f br x (view h g inputs replies Q T w) k) → Meets g inputs replies r R S (iteOf g ways f σ k)
 unfolding view
 ite-at g inputs replies ways f k σ r R S Q T h w a x c br va ea ec eb m = ite-go g inputs replies ways f k σ r R S R S a (view h g inputs replies Q T w) x br va ea (ap branch (sym ec) ∙ eb) m
-
-module _ (g inputs replies : List ℕ) (ways : Ways) (f k : ℕ) (σ : St) (r : Visited) (R S Q T : List ℕ) (h : List Held) (w : Walk) (a x : ℕ)
-    (v : visitOf g ways f σ a ≡ done (view h g inputs replies Q T w, x)) (e : a ≡ wordOf g k 2) (b : ℕ) (t : Bool) (i : b ≡ wordOf g k 2) (d : t ≡ hasReplacement (markOf (countOf g) T b)) where
-  mark-is : hasReplacement (markOf (countOf g) T (wordOf g k 2)) ≡ t
-  mark-is = ap (λ z. hasReplacement (markOf (countOf g) T z)) (sym i) ∙ sym d
-
-  pub step-refused : t ≡ true → Meets g inputs replies r R S (refuse 9 1 k) → Meets g inputs replies r R S (stepOf g ways f σ k)
-  unfolding view
-  step-refused y m = step-go g inputs replies ways f k σ r R S R S a (view h g inputs replies Q T w) x true v e (mark-is ∙ y) m
-
-  pub step-goes : t ≡ false → Meets g inputs replies r R S (valueOf g ways f (view h g inputs replies Q T w) k) → Meets g inputs replies r R S (stepOf g ways f σ k)
-  unfolding view
-  step-goes y m = step-go g inputs replies ways f k σ r R S R S a (view h g inputs replies Q T w) x false v e (mark-is ∙ y) m
 
 -- ---- branches
 pub branch-none : (c : Constant) → c ≡ Constant.None → branch (constantIs c) ≡ undecided

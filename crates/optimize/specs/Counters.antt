@@ -47,11 +47,11 @@ tallied w looked passed = record { made = w .made; taken = w .taken; used = w .u
 abbrev pub roomAt : ℕ → Refusal
 roomAt p = elim (eqb p 0) [ true ↦ Refusal.ResultRoom | false ↦ Refusal.ScratchRoom ]
 
--- a refusal by its number, section and position; a mode over the highest reads as section 0 short, whose number and place are the same
+-- a refusal by its number, section and position; a mode over the highest reads as section 0 short, whose number and place are the same; none has 0 or 9
 abbrev pub refusalsAt : ℕ → ℕ → List Refusal
 refusalsAt s p =
     Refusal.Mode ∷ Refusal.Short s ∷ Refusal.OverLimit s ∷ Refusal.Malformed p ∷ Refusal.OperandNotBefore p ∷ Refusal.Sorts p ∷ Refusal.Entry s p
-    ∷ Refusal.SecondSequential p ∷ Refusal.MemoryInput p ∷ Refusal.ReplacedState p ∷ Refusal.InputTooWide p ∷ Refusal.Reply p ∷ roomAt p
+    ∷ Refusal.SecondSequential p ∷ Refusal.MemoryInput p ∷ Refusal.Mode ∷ Refusal.InputTooWide p ∷ Refusal.Reply p ∷ roomAt p
     ∷ Refusal.AlwaysTrue s p ∷ Refusal.Satisfiable s p ∷ []
 
 unfoldable pub refusalBy : ℕ → ℕ → ℕ → Refusal

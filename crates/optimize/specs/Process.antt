@@ -8,9 +8,9 @@ use Prim.Native.Nat.{ℕ, _<_}
 use mathlib.Core.Bool.{Bool, true, false, cond}
 use mathlib.Core.List.{List}
 use lib.Dec.{eqb}
-use Rattle.rules.specs.Refusal.{Out, refused, done, refuse, _>>=_}
+use Rattle.rules.specs.Refusal.{Out, refused, done, _>>=_}
 use Rattle.rules.specs.Table.{Kind, Const, Read, Write, Word, Ult, Ext, Ite, Eq, And, Or, Not, State, Next, Input, Bad, kindOf, with}
-use Rattle.rules.specs.Walk.{St, Mark, fresh, kept, replaced, Held, setRow}
+use Rattle.rules.specs.Walk.{St, Held, setRow}
 use Rattle.rules.specs.Fold.{Fold, stays, swap, make, constOf, foldConst}
 use Rattle.rules.specs.Questions.{quiet, askOr, askBit, askIte}
 use Rattle.rules.specs.Visit.{Ways, Branch, left, right, undecided, branch, settle, finish, forward, takeInput, process, visit}
@@ -89,11 +89,6 @@ isRead State = false
 isRead Next = false
 isRead Input = false
 isRead Bad = false
-
-abbrev pub hasReplacement : Mark → Bool
-hasReplacement fresh = false
-hasReplacement kept = false
-hasReplacement (replaced r) = true
 
 module _ (g : List ℕ) (ways : Ways) where
   -- settle what the questions gave
@@ -186,8 +181,8 @@ module _ (g : List ℕ) (ways : Ways) where
 
     abbrev pub stepOf : St → ℕ → Out (St × ℕ)
     stepOf σ k = do
-      (σ₁, x) ← visitOf σ (wordOf g k 2)
-      elim (hasReplacement (σ₁ .mark (wordOf g k 2))) [ true ↦ refuse 9 1 k | false ↦ valueOf σ₁ k ]
+      (σ₁, state) ← visitOf σ (wordOf g k 2)
+      valueOf σ₁ k
 
     unfoldable pub byForm : Form → Kind → St → ℕ → Out (St × ℕ)
     byForm Form.Constant K σ k = constOut σ k

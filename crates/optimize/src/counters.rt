@@ -151,7 +151,6 @@ fn refusal_by(number: usize, section: usize, position: usize) -> Refusal
         6 => Refusal::Entry(wide(section), position),
         7 => Refusal::SecondSequential(position),
         8 => Refusal::MemoryInput(position),
-        9 => Refusal::ReplacedState(position),
         10 => Refusal::InputTooWide(position),
         11 => Refusal::Reply(position),
         12 => {

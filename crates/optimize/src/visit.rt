@@ -10,7 +10,6 @@ use crate::buffers::word;
 use crate::call_words::inputs_in;
 use crate::counters::is_refused;
 use crate::counters::put_walk;
-use crate::counters::refuse;
 use crate::counters::visited_in;
 use crate::fold::Folded;
 use crate::form::Choice;
@@ -26,26 +25,16 @@ use crate::settle::settle_const;
 use crate::walk::Visited;
 use crate::walk::Walk;
 use tables::node::NodeKind;
-use tables::refusal::Refusal;
-ghost use Prim.Native.Nat.{_+_, _<_, _≤_};
+ghost use Prim.Native.Nat.{_+_, _<_};
 ghost use mathlib.Core.Path.{_≡_};
-ghost use lib.ListN.{length};
 ghost use Rattle.rules.specs.Table.{kindOf};
 ghost use Rattle.rules.specs.Walk.{fresh};
 ghost use Rattle.tables.specs.NodeAnswers.{kindIs};
 ghost use Rattle.optimize.specs.View.{countOf, wordOf, markOf};
-ghost use Rattle.optimize.specs.Process.{formOf, hasReplacement, visitOf, processOf, oneOf, twoOf, threeOf, leftOf, rightOf, bothOf, iteOf, valueOf, stepOf};
+ghost use Rattle.optimize.specs.Process.{formOf, visitOf, processOf, oneOf, twoOf, threeOf, leftOf, rightOf, bothOf, iteOf, valueOf, stepOf};
 ghost use Rattle.optimize.specs.CallWords.{LaidBy, VisitsBy, waysBy};
 ghost use Rattle.optimize.specs.Counters.{walkIn, Going, answerIn};
 ghost use Rattle.optimize.specs.declared.form.Form.{Form};
-
-// Whether a node has a replacement.
-fn is_replaced(given: &[u64], scratch: &[u64], node: usize) -> bool
-    requires { ⌜ (node < countOf (now given)) × (countOf (now given) ≤ length (now scratch)) ⌝ }
-    ensures { λ r. ⌜ r ≡ hasReplacement (markOf (countOf (now (given .entry))) (now (scratch .entry)) node) ⌝ }
-{
-    1 < scratch[node]
-}
 
 // Visits a node: processes it the first time, and later gives what was recorded.
 fn visit(
@@ -414,7 +403,7 @@ fn process_both(
     after_ite(given, call, result, scratch, counters, node, x, y, z)
 }
 
-// A Next: its state first, which must not be replaced, then the next value.
+// A Next: its state first, which stands for itself (rules/specs/KeptState.antt), then the next value.
 fn process_next(
     given: &[u64],
     result: &mut [u64],
@@ -432,21 +421,10 @@ fn process_next(
     requires { ⌜ Going (now counters) ⌝ }
     ensures { λ r. ⌜ VisitsBy (now (given .entry)) (now (call .entry)) (now (result .entry)) (now (scratch .entry)) (walkIn (now (counters .entry))) (answerIn r (now (counters .exit))) (now (result .exit)) (now (scratch .exit)) node (λ f σ. stepOf (now (given .entry)) (waysBy (now (given .entry)) (now (dumps .entry)) (now (call .entry))) f σ node) ⌝ }
 {
-    let x = visit(
-        given,
-        result,
-        scratch,
-        dumps,
-        call,
-        counters,
-        operand(given, node, 2),
-    );
+    let state = operand(given, node, 2);
+    let x = visit(given, result, scratch, dumps, call, counters, state);
     if is_refused(counters) {
         return x;
-    }
-    if is_replaced(given, scratch, operand(given, node, 2)) {
-        refuse(Refusal::ReplacedState(node), counters);
-        return node;
     }
     process_value(given, result, scratch, dumps, call, counters, node)
 }

@@ -156,7 +156,7 @@ flatten-length [] = refl
 flatten-length (xs ∷ xss) = length-append xs (flatten xss) ∙ ap (λ n. length xs + n) (flatten-length xss)
 
 -- the model that a call comes to is well formed
-formed : (entry : Entry) (names : List (List ℕ)) (s : Sections) → check (length names) (s .rows) (modelFrom names s) ≡ none → legal.WellFormed (modelFrom names (brought entry s))
+pub formed : (entry : Entry) (names : List (List ℕ)) (s : Sections) → check (length names) (s .rows) (modelFrom names s) ≡ none → legal.WellFormed (modelFrom names (brought entry s))
 unfolding check legal.Accepted
 formed impl names s c = accepted (length names) (s .rows) (dump names) (s .sequentials) (s .initial) (s .later) (s .inputs) (s .replies) c .model
 formed withSolver names s c = accepted (length names) (s .rows) (dump names) (s .sequentials) (s .initial) (s .later) [] (s .replies) c .model

@@ -60,7 +60,7 @@ module _ (names : ℕ) (rs : List Row) (e : checkNodes names (map decode rs) 0 r
       (subst (λ j. checkNode names t j r ≡ none) (zero-add k) (node-passed names t rs 0 e k l)) in
       (held (rule3 names r) 3 1 k (f .0), held (rule4 k (decode r)) 4 1 k (f .1 .0), held (rule5 t (decode r)) 5 1 k (f .1 .1 .0))
 
-  all-legal : AllLegal (map decode rs)
+  pub all-legal : AllLegal (map decode rs)
   all-legal k l =
       let t : List Node = map decode rs in
       let nd : Node = decode (rowAt rs k) in

@@ -135,7 +135,7 @@ demand-3-of-fold m how f wf run clean replies α faithful =
     keeps m how f wf run (none-passed (how .reading) f (folded m how wf f run .fine .books .clean) clean) α (replies α faithful) faithful
 
 -- a run that is done was not refused, and its fold is done
-pub run-done : (o : Option Refusal) (x : Out Folded) (f : Folded) → unlessRefused o x ≡ done f → (o ≡ none) × (x ≡ done f)
+pub run-done : {A : Type 0} (o : Option Refusal) (x : Out A) (f : A) → unlessRefused o x ≡ done f → (o ≡ none) × (x ≡ done f)
 run-done none x f e = (refl, e)
 run-done (some r) x f e = let z : _≡_ {A = ℕ} 0 1 = cc in let o : ⊥ = omega arith in absurd o
 

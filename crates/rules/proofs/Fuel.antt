@@ -16,7 +16,7 @@ use Rattle.rules.specs.Legal.{AllLegal}
 use Rattle.rules.specs.Walk.{St, Mark, fresh, kept, replaced}
 use Rattle.rules.specs.Fold.{Fold, stays, constOf}
 use Rattle.rules.specs.Laws.{VisitRule}
-use Rattle.rules.specs.Visit.{Ways, Branch, left, right, undecided, branch, visit1, visit2, visit3, unary, binary, iteOn, takeInput, notReplaced, process, visitMarked, visit, visitTop}
+use Rattle.rules.specs.Visit.{Ways, Branch, left, right, undecided, branch, visit1, visit2, visit3, unary, binary, iteOn, takeInput, process, visitMarked, visit, visitTop}
 
 bind-same : {A B : Type 0} (m m′ : Out A) (f f′ : A → Out B) → m ≡ m′ → ((x : A) → f x ≡ f′ x) → (m >>= f) ≡ (m′ >>= f′)
 bind-same m m′ f f′ e h = ap₂ (λ (o : Out _) (g : _ → Out _). o >>= g) e (fun-ext h)
@@ -72,9 +72,7 @@ module _ (t : List Node) (ways : Ways) where
         go true h = unary-same _ (h .0)
         go false h = refl
     process-same Next g =
-        bind-same _ _ _ _ (same σ (nd .a) (g .0))
-        (λ p. bind-same (notReplaced k (p .0 .mark (nd .a)) (p .0)) (notReplaced k (p .0 .mark (nd .a)) (p .0)) _ _ refl
-        (λ σ₂. bind-same _ _ _ _ (same σ₂ (nd .b) (g .1 .0)) (λ q. refl)))
+        bind-same _ _ _ _ (same σ (nd .a) (g .0)) (λ p. bind-same _ _ _ _ (same (p .0) (nd .b) (g .1 .0)) (λ q. refl))
     process-same Input g = refl
     process-same Bad g = unary-same _ (g .0)
 

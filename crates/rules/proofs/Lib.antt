@@ -38,5 +38,7 @@ pub mod Faithful
 pub mod Worked
 pub mod CallCases
 pub mod Judged
-pub mod NumberedWalk
+pub mod Along
+pub mod KeptState
+pub mod KeptCases
 pub mod Numbered

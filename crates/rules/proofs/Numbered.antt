@@ -1,31 +1,53 @@
--- Every refusal's number is from 1 to 14: of the stages before the walk here, of the walk in NumberedWalk; so number 0 is acceptance.
+-- Every refusal's number is one of Numbered's list: of the stages before the walk here, of the walk by Along; so number 0 is acceptance.
 -- Assumes nothing.
-use Prim.Native.Nat.{ℕ, zero, suc, _*_, _≤_}
+use Prim.Native.Nat.{ℕ, zero, suc, _*_, _<_}
 use mathlib.Core.Path.{_≡_, refl, subst}
 use mathlib.Core.Bool.{Bool, true, false, not, _&&_}
 use mathlib.Core.Option.{Option, none, some}
 use mathlib.Core.List.{List, [], _∷_}
 use native.Mathlib.Omega.{arith}
 use lib.ListN.{length, drop}
-use lib.Dec.{ltb, leb, eqb, lit≤}
+use lib.Dec.{ltb, leb, eqb}
 use Rattle.rules.specs.Lists.{All, allTrue, member}
-use Rattle.rules.specs.Refusal.{Refusal, Out, refused, done, unless, firstOf, unlessRefused}
+use Rattle.rules.specs.Refusal.{Refusal, Out, refused, done, _>>=_, unless, firstOf, unlessRefused}
 use Rattle.rules.specs.Table.{Row, Node, decode, nodeAt, rowWidth}
 use Rattle.rules.specs.Model.{Model, Mode}
 use Rattle.rules.specs.Check.{rule3, rule4, rule5, checkNode, checkNodes, sequentialEntry, badEntry, checkSequentials, checkBads, check}
-use Rattle.rules.specs.Whole.{fold, run}
+use Rattle.rules.specs.Whole.{Folded, fold, run}
+use Rattle.rules.specs.KeptState.{begun}
 use Rattle.rules.specs.Limits.{Limits, highestMode}
 use Rattle.rules.specs.Sections.{Sections, cutSection, cutSix, noneLeft, cut}
 use Rattle.rules.specs.Names.{cutNames, countedNames, namesOf}
 use Rattle.rules.specs.Call.{Entry, impl, Call, Accepted, judgeMode, needOf, judgeRoom, modelFrom, brought, judgeAndFold, judgeCut, outcome, answerOf}
 use Rattle.rules.specs.Text.{mostNumbers, programRoom, tokens, numberOf, judgeToken, numbersFrom, withMode, numbers, allNameBytes, namesInNumbers, afterNumbers, textOutcome}
-use Rattle.rules.specs.Numbered.{OneToFourteen, Numbered, RefusalNumbers}
-use Rattle.rules.proofs.NumberedWalk.{then, either, fold-numbered}
+use Rattle.rules.specs.Numbered.{IsReason, Numbered, RefusalNumbers}
+use Rattle.rules.proofs.Base.{no}
+use Rattle.rules.proofs.Along.{Along, fold-along}
+
+-- ---- stages joined, and tests
+then : {A B : Type 0} (m : Out A) (f : A → Out B) → Numbered m → ((x : A) → Numbered (f x)) → Numbered (m >>= f)
+then (refused r) f h g = h
+then (done x) f h g = g x
+
+either : {A : Type 0} (b : Bool) (x y : Out A) → Numbered x → Numbered y → Numbered {A = A} (elim b [ true ↦ x | false ↦ y ])
+either true x y h g = h
+either false x y h g = g
+
+-- ---- the walk
+fold-numbered : (m : Model) (how : Mode) → Numbered (fold m how)
+fold-numbered m how =
+    go (fold m how)
+    (fold-along m how IsReason (λ σ σ′. Unit)
+    (record { still = λ σ σ′ e. tt; both = λ σ σ₁ σ₂ x y. tt; keeps = λ σ k. tt; replaces = λ σ k r i. tt; memoryInput = refl; wideInput = refl; wrongReply = refl; alwaysBad = refl; possiblyBad = refl }))
+  where
+    go : (o : Out Folded) → Along (m .table) IsReason (λ σ σ′. Unit) (λ (f : Folded). f .state) (begun m .0) o → Numbered o
+    go (refused r) h = h
+    go (done f) h = tt
 
 -- ---- refusals that may be none
 MaybeNumbered : Option Refusal → Type 0
 MaybeNumbered none = Unit
-MaybeNumbered (some r) = OneToFourteen r
+MaybeNumbered (some r) = IsReason (r .reason)
 
 first-numbered : (os : List (Option Refusal)) → All MaybeNumbered os → MaybeNumbered (firstOf os)
 unfolding MaybeNumbered
@@ -33,10 +55,10 @@ first-numbered [] h = tt
 first-numbered (some r ∷ os) h = h .0
 first-numbered (none ∷ os) h = first-numbered os (h .1)
 
-unless-numbered : (b : Bool) (n s p : ℕ) → 1 ≤ n → n ≤ 14 → MaybeNumbered (unless b n s p)
+unless-numbered : (b : Bool) (n s p : ℕ) → IsReason n → MaybeNumbered (unless b n s p)
 unfolding MaybeNumbered
-unless-numbered true n s p l u = tt
-unless-numbered false n s p l u = (l, u)
+unless-numbered true n s p h = tt
+unless-numbered false n s p h = h
 
 unlessRefused-numbered : {A : Type 0} (o : Option Refusal) (m : Out A) → MaybeNumbered o → Numbered m → Numbered (unlessRefused o m)
 unfolding MaybeNumbered
@@ -46,12 +68,12 @@ unlessRefused-numbered none m h g = g
 -- ---- 1, 2 and 12: mode, sections, names and room
 mode-numbered : (mode : ℕ) → Numbered (judgeMode mode)
 unfolding judgeMode
-mode-numbered mode = either (ltb highestMode mode) _ _ (lit≤ tt, lit≤ tt) tt
+mode-numbered mode = either (ltb highestMode mode) _ _ refl tt
 
 section-numbered : (section limit width : ℕ) (ws : List ℕ) → Numbered (cutSection section limit width ws)
 unfolding cutSection
-section-numbered section limit width [] = (lit≤ tt, lit≤ tt)
-section-numbered section limit width (count ∷ ws) = either (ltb limit count) _ _ (lit≤ tt, lit≤ tt) (either (ltb (length ws) (width * count)) _ _ (lit≤ tt, lit≤ tt) tt)
+section-numbered section limit width [] = refl
+section-numbered section limit width (count ∷ ws) = either (ltb limit count) _ _ refl (either (ltb (length ws) (width * count)) _ _ refl tt)
 
 six-numbered : (limits : Limits) (ws : List ℕ) → Numbered (cutSix limits ws)
 unfolding cutSix
@@ -65,7 +87,7 @@ six-numbered limits ws =
 
 left-numbered : {A : Type 0} (section : ℕ) (x : A) (ws : List ℕ) → Numbered (noneLeft section x ws)
 left-numbered section x [] = tt
-left-numbered section x (w ∷ ws) = (lit≤ tt, lit≤ tt)
+left-numbered section x (w ∷ ws) = refl
 
 cut-numbered : (limits : Limits) (ws : List ℕ) → Numbered (cut limits ws)
 unfolding cut
@@ -74,25 +96,25 @@ cut-numbered limits ws = then (cutSix limits ws) _ (six-numbered limits ws) λ p
 cutNames-numbered : (limits : Limits) (count : ℕ) (bs : List ℕ) → Numbered (cutNames limits count bs)
 unfolding cutNames
 cutNames-numbered limits zero bs = tt
-cutNames-numbered limits (suc count) [] = (lit≤ tt, lit≤ tt)
+cutNames-numbered limits (suc count) [] = refl
 cutNames-numbered limits (suc count) (size ∷ bs) =
-    either (ltb (limits .nameLength) size) _ _ (lit≤ tt, lit≤ tt)
-    (either (ltb (length bs) size) _ _ (lit≤ tt, lit≤ tt) (then (cutNames limits count (drop size bs)) _ (cutNames-numbered limits count (drop size bs)) λ p. tt))
+    either (ltb (limits .nameLength) size) _ _ refl
+    (either (ltb (length bs) size) _ _ refl (then (cutNames limits count (drop size bs)) _ (cutNames-numbered limits count (drop size bs)) λ p. tt))
 
 counted-numbered : (limits : Limits) (count : ℕ) (bs : List ℕ) → Numbered (countedNames limits count bs)
 unfolding countedNames
 counted-numbered limits count bs =
-    either (ltb (limits .names) count) _ _ (lit≤ tt, lit≤ tt) (then (cutNames limits count bs) _ (cutNames-numbered limits count bs) λ p. left-numbered 7 (p .0) (p .1))
+    either (ltb (limits .names) count) _ _ refl (then (cutNames limits count bs) _ (cutNames-numbered limits count bs) λ p. left-numbered 7 (p .0) (p .1))
 
 names-numbered : (limits : Limits) (bs : List ℕ) → Numbered (namesOf limits bs)
 unfolding namesOf
-names-numbered limits [] = (lit≤ tt, lit≤ tt)
-names-numbered limits (low ∷ []) = (lit≤ tt, lit≤ tt)
+names-numbered limits [] = refl
+names-numbered limits (low ∷ []) = refl
 names-numbered limits (low ∷ high ∷ bs) = counted-numbered limits _ bs
 
 room-numbered : (words resultRoom scratchRoom : ℕ) → Numbered (judgeRoom words resultRoom scratchRoom)
 unfolding judgeRoom
-room-numbered words resultRoom scratchRoom = either (ltb resultRoom words) _ _ (lit≤ tt, lit≤ tt) (either (ltb scratchRoom words) _ _ (lit≤ tt, lit≤ tt) tt)
+room-numbered words resultRoom scratchRoom = either (ltb resultRoom words) _ _ refl (either (ltb scratchRoom words) _ _ refl tt)
 
 -- ---- 3 to 7: the table and its lists
 nodes-numbered : (names : ℕ) (t : List Node) (k : ℕ) (rs : List Row) → MaybeNumbered (checkNodes names t k rs)
@@ -101,7 +123,7 @@ nodes-numbered names t k [] = tt
 nodes-numbered names t k (r ∷ rs) =
     first-numbered (checkNode names t k r ∷ checkNodes names t (suc k) rs ∷ []) (
       first-numbered (unless (rule3 names r) 3 1 k ∷ unless (rule4 k (decode r)) 4 1 k ∷ unless (rule5 t (decode r)) 5 1 k ∷ [])
-          (unless-numbered (rule3 names r) 3 1 k (lit≤ tt) (lit≤ tt), (unless-numbered (rule4 k (decode r)) 4 1 k (lit≤ tt) (lit≤ tt), (unless-numbered (rule5 t (decode r)) 5 1 k (lit≤ tt) (lit≤ tt), tt))),
+          (unless-numbered (rule3 names r) 3 1 k refl, (unless-numbered (rule4 k (decode r)) 4 1 k refl, (unless-numbered (rule5 t (decode r)) 5 1 k refl, tt))),
       (nodes-numbered names t (suc k) rs, tt),
     )
 
@@ -110,14 +132,14 @@ unfolding MaybeNumbered checkSequentials
 sequentials-numbered t place seen [] = tt
 sequentials-numbered t place seen (s ∷ ss) =
     first-numbered (unless (allTrue (sequentialEntry t s)) 6 2 place ∷ unless (not (member (nodeAt t s .a) seen)) 7 2 place ∷ checkSequentials t (suc place) (nodeAt t s .a ∷ seen) ss ∷ [])
-    (unless-numbered (allTrue (sequentialEntry t s)) 6 2 place (lit≤ tt) (lit≤ tt), (unless-numbered (not (member (nodeAt t s .a) seen)) 7 2 place (lit≤ tt) (lit≤ tt), (sequentials-numbered t (suc place) (nodeAt t s .a ∷ seen) ss, tt)))
+    (unless-numbered (allTrue (sequentialEntry t s)) 6 2 place refl, (unless-numbered (not (member (nodeAt t s .a) seen)) 7 2 place refl, (sequentials-numbered t (suc place) (nodeAt t s .a ∷ seen) ss, tt)))
 
 entries-numbered : (t : List Node) (section place : ℕ) (bs : List ℕ) → MaybeNumbered (checkBads t section place bs)
 unfolding MaybeNumbered checkBads
 entries-numbered t section place [] = tt
 entries-numbered t section place (b ∷ bs) =
     first-numbered (unless (allTrue (badEntry t b)) 6 section place ∷ checkBads t section (suc place) bs ∷ [])
-    (unless-numbered (allTrue (badEntry t b)) 6 section place (lit≤ tt) (lit≤ tt), (entries-numbered t section (suc place) bs, tt))
+    (unless-numbered (allTrue (badEntry t b)) 6 section place refl, (entries-numbered t section (suc place) bs, tt))
 
 check-numbered : (names : ℕ) (rs : List Row) (m : Model) → MaybeNumbered (check names rs m)
 unfolding check
@@ -145,8 +167,8 @@ outcome-numbered limits entry call =
 -- ---- a text
 token-numbered : (place : ℕ) (x : Option ℕ) → Numbered (judgeToken place x)
 unfolding judgeToken
-token-numbered place none = either (leb mostNumbers place) _ _ (lit≤ tt, lit≤ tt) (lit≤ tt, lit≤ tt)
-token-numbered place (some x) = either (leb mostNumbers place) _ _ (lit≤ tt, lit≤ tt) (either (eqb place 0 && ltb highestMode x) _ _ (lit≤ tt, lit≤ tt) tt)
+token-numbered place none = either (leb mostNumbers place) _ _ refl refl
+token-numbered place (some x) = either (leb mostNumbers place) _ _ refl (either (eqb place 0 && ltb highestMode x) _ _ refl tt)
 
 numbersFrom-numbered : (place : ℕ) (ts : List (List ℕ)) → Numbered (numbersFrom place ts)
 unfolding numbersFrom
@@ -155,13 +177,13 @@ numbersFrom-numbered place (t ∷ ts) =
     then (judgeToken place (numberOf t)) _ (token-numbered place (numberOf t)) λ x. then (numbersFrom (suc place) ts) _ (numbersFrom-numbered (suc place) ts) λ xs. tt
 
 withMode-numbered : (xs : List ℕ) → Numbered (withMode xs)
-withMode-numbered [] = (lit≤ tt, lit≤ tt)
+withMode-numbered [] = refl
 withMode-numbered (mode ∷ xs) = tt
 
 inNumbers-numbered : (limits : Limits) (xs : List ℕ) → Numbered (namesInNumbers limits xs)
 unfolding namesInNumbers
-inNumbers-numbered limits [] = (lit≤ tt, lit≤ tt)
-inNumbers-numbered limits (count ∷ xs) = then (countedNames limits count xs) _ (counted-numbered limits count xs) λ names. either (allNameBytes names) _ _ tt (lit≤ tt, lit≤ tt)
+inNumbers-numbered limits [] = refl
+inNumbers-numbered limits (count ∷ xs) = then (countedNames limits count xs) _ (counted-numbered limits count xs) λ names. either (allNameBytes names) _ _ tt refl
 
 pub text-numbered : (limits : Limits) (bytes : List ℕ) → Numbered (textOutcome limits bytes)
 unfolding textOutcome afterNumbers numbers
@@ -177,9 +199,13 @@ pub refusal-numbers : RefusalNumbers
 unfolding RefusalNumbers
 refusal-numbers = ((λ limits entry call r e. subst Numbered e (outcome-numbered limits entry call)), λ limits bytes r e. subst Numbered e (text-numbered limits bytes))
 
+pub reason-positive : (n : ℕ) → IsReason n → 0 < n
+reason-positive zero h = no h
+reason-positive (suc n) h = omega arith
+
 pub accepted-answer : (limits : Limits) (entry : Entry) (call : Call) → answerOf (outcome limits entry call) .number ≡ 0 → (a : Accepted) × (outcome limits entry call ≡ done a)
 accepted-answer limits entry call = go (outcome limits entry call) (outcome-numbered limits entry call)
   where
     go : (o : Out Accepted) → Numbered o → answerOf o .number ≡ 0 → (a : Accepted) × (o ≡ done a)
-    go (refused r) h e = let z : ⊥ = omega (arith, h .0, e) in absurd z
+    go (refused r) h e = let z : ⊥ = omega (arith, reason-positive (r .reason) h, e) in absurd z
     go (done a) h e = (a, refl)

@@ -22,7 +22,7 @@ use Rattle.rules.specs.Walk.{St, Mark, fresh, kept, replaced, Held, setR
 use Rattle.rules.specs.Fold.{Fold, stays, swap, make, constOf, foldWords, foldTest, foldEq, foldAnd, foldOr, foldNot, foldExt}
 use Rattle.rules.specs.Memory.{Found, find, foldFound, passedBy}
 use Rattle.rules.specs.Questions.{quiet}
-use Rattle.rules.specs.Visit.{Ways, Branch, left, right, undecided, branch, newNumber, settle, finishStay, finish, visit1, visit2, visit3, unary, binary, forward, iteOn, takeInput, notReplaced, process, visitMarked, visit}
+use Rattle.rules.specs.Visit.{Ways, Branch, left, right, undecided, branch, newNumber, settle, finishStay, finish, visit1, visit2, visit3, unary, binary, forward, iteOn, takeInput, process, visitMarked, visit}
 use Rattle.rules.specs.Tally.{writes, ifReplaced}
 use Rattle.rules.specs.Room.{due}
 use Rattle.rules.specs.Laws.{SortFor}
@@ -251,22 +251,15 @@ module _ (t : List Node) (ways : Ways) (ins reps : List ℕ) where
             (after-row (q .0) nd x 1 (subst (At t ways ins reps (q .0) x) ea tx)) (after-row (q .0) nd (p .1) (g .sort) (subst (At t ways ins reps (q .0) (p .1)) eb ty)) (after-row (q .0) nd (q .1) (g .sort) (subst (At t ways ins reps (q .0) (q .1)) ec (rz .1))))))
 
       -- ---- Next, Read, State
-      next-went : (σ₁ : St) (m : Mark) → g .a < k → g .b < k → mayServe (nodeAt t (g .a)) ≡ true → mayServe (nodeAt t (g .b)) ≡ true
+      next-went : g .a < k → g .b < k → mayServe (nodeAt t (g .a)) ≡ true → mayServe (nodeAt t (g .b)) ≡ true
           → ((y : ℕ) → keptAs (g .kind) (with g (g .a) y (g .c)) ≡ keptAs (g .kind) g)
           → ((rows : ℕ → Node) (made y : ℕ) → Ref t rows made k (g .a) (g .a) → Ref t rows made k y (g .b) → Refs t rows made k (operands (with g (g .a) y (g .c))) (operands g))
-          → Here 0 0 σ₁ → If (Visited t ways ins reps k σ) (notReplaced k m σ₁ >>= λ σ₂. vis σ₂ (g .b) >>= λ p. settle t ways k (setRow (p .0) k (with g (g .a) (p .1) (g .c))) stays)
-      next-went σ₁ m ha hb sa sb kp rf x = go m
-        where
-          last : If (Visited t ways ins reps k σ) (vis σ₁ (g .b) >>= λ p. settle t ways k (setRow (p .0) k (with g (g .a) (p .1) (g .c))) stays)
-          last =
-              operand (Visited t ways ins reps k σ) σ₁ (g .b) _ hb sb x
-              (λ p y lt ry. settled 0 0 (setRow (p .0) k (with g (g .a) (p .1) (g .c))) stays (omega arith) (omega arith)
-              (row-went (p .0) (with g (g .a) (p .1) (g .c)) (alike (g .a) (p .1) (g .c) (kp (p .1)), rf (p .0 .rows) (p .0 .made) (p .1) ((λ _. ha), stands-itself t (p .0 .rows) (p .0 .made) (g .a) (omega arith) sa) ry) y) tt)
-
-          go : (m : Mark) → If (Visited t ways ins reps k σ) (notReplaced k m σ₁ >>= λ σ₂. vis σ₂ (g .b) >>= λ p. settle t ways k (setRow (p .0) k (with g (g .a) (p .1) (g .c))) stays)
-          go fresh = last
-          go kept = last
-          go (replaced r) = tt
+          → If (Visited t ways ins reps k σ) (vis σ (g .a) >>= λ p. vis (p .0) (g .b) >>= λ q. settle t ways k (setRow (q .0) k (with g (g .a) (q .1) (g .c))) stays)
+      next-went ha hb sa sb kp rf =
+          operand (Visited t ways ins reps k σ) σ (g .a) _ ha sa (went-none t ways ins reps k 0 σ f₀)
+          (λ p x _ _. operand (Visited t ways ins reps k σ) (p .0) (g .b) _ hb sb x
+          (λ q y _ ry. settled 0 0 (setRow (q .0) k (with g (g .a) (q .1) (g .c))) stays (omega arith) (omega arith)
+          (row-went (q .0) (with g (g .a) (q .1) (g .c)) (alike (g .a) (q .1) (g .c) (kp (q .1)), rf (q .0 .rows) (q .0 .made) (q .1) ((λ _. ha), stands-itself t (q .0 .rows) (q .0 .made) (g .a) (omega arith) sa) ry) y) tt))
 
       -- a Read settled with what its walk found: its looks are paid, and what it passed is counted only if it found a value
       tallied : (σ₁ : St) (r : Found) → r .looked ≤ fee t k → r .unsettled ≤ r .looked → Strict (ways .reading) (σ₁ .passed + passedBy (r .value) (r .unsettled)) → Folds σ₁ (foldFound (r .value)) → Here 0 0 σ₁
@@ -435,9 +428,7 @@ module _ (t : List Node) (ways : Ways) (ins reps : List ℕ) where
               (λ rows made x r. subst (λ z. Refs t rows made k (cond z (x ∷ []) []) (cond z (a ∷ []) [])) (sym q) (r, tt)) (λ σ₁ x cx f₁ h fx. tt)
           go false q h v = takeInput-went (mk State s a b c nm) eg (σ .inputs) refl refl (ap (λ z. cond z (a ∷ []) []) q)
       process-went Next eg g =
-          let nd : Node = mk Next s a b c nm in
-          operand nd eg (Visited t ways ins reps k σ) σ a _ (g .before .0) (g .serve .0) (went-none t ways ins reps k 0 σ f₀)
-          (λ p x lt r. next-went nd eg (p .0) (p .0 .mark a) (g .before .0) (g .before .1 .0) (g .serve .0) (g .serve .1 .0) (λ y. refl) (λ rows made y ra ry. (ra, (ry, tt))) x)
+          next-went (mk Next s a b c nm) eg (g .before .0) (g .before .1 .0) (g .serve .0) (g .serve .1 .0) (λ y. refl) (λ rows made y ra ry. (ra, (ry, tt)))
       process-went Input eg g = settled (mk Input s a b c nm) eg 0 0 σ stays (omega arith) (omega arith) (went-none t ways ins reps k 0 σ f₀) tt
       process-went Bad eg g =
           unary-went (mk Bad s a b c nm) eg (λ x. stays) (g .before .0) (g .serve .0) (λ x. refl) (λ rows made x r. (r, tt)) (λ σ₁ x cx f₁ h fx. tt)

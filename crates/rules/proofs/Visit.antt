@@ -23,7 +23,7 @@ use Rattle.rules.specs.Walk.{St, Mark, fresh, kept, replaced, setRow, ad
 use Rattle.rules.specs.Fold.{Fold, stays, swap, constOf, foldWords, foldTest, foldEq, foldAnd, foldOr, foldNot, foldExt, foldConst}
 use Rattle.rules.specs.Memory.{Found, find, foldFound, passedBy}
 use Rattle.rules.specs.Questions.{quiet, askBit, askAnd, askIte}
-use Rattle.rules.specs.Visit.{Ways, Branch, left, right, undecided, branch, settle, finish, visit1, visit2, visit3, unary, binary, forward, iteOn, takeInput, notReplaced, process, visitMarked, visit}
+use Rattle.rules.specs.Visit.{Ways, Branch, left, right, undecided, branch, settle, finish, visit1, visit2, visit3, unary, binary, forward, iteOn, takeInput, process, visitMarked, visit}
 use Rattle.rules.specs.Demand.{Same}
 use Rattle.btor.proofs.Agreement.{cases}
 use Rattle.rules.proofs.Base.{mk, cases-cond, no, all-left, all-right, word-not-write}
@@ -286,22 +286,11 @@ module _ (t : List Node) (ways : Ways) (v : ℕ → Value) where
           go false q h = takeInput-ok P σ k (mk State s a b c nm) (σ .inputs)
       process-at Next kd e g =
           let nd : Node = mk Next s a b c nm in
-          bind t ways v P σ (λ x. v x ≡ v a) (λ r. v r ≡ v k) (vis σ a) _ (vis-ok P σ a (inside (g .before .0) l))
-          (λ σ₁ x. go σ₁ x (σ₁ .mark a))
-        where
-          last : (P′ : Type 0) (σ₁ : St) → Goes t ways v P′ σ₁ (λ r. v r ≡ v k)
-              (vis σ₁ b >>= λ p. settle t ways k (setRow (p .0) k (with (mk Next s a b c nm) a (p .1) c)) stays)
-          last P′ σ₁ =
-              bind t ways v P′ σ₁ (λ y. v y ≡ v b) (λ r. v r ≡ v k) (vis σ₁ b) _ (vis-ok P′ σ₁ b (inside (g .before .1 .0) l))
-              (λ σ₂ y. stored (P′ × (v y ≡ v b)) σ₂ k (with (mk Next s a b c nm) a y c) (λ r. v r ≡ v k)
-              (settle t ways k (setRow σ₂ k (with (mk Next s a b c nm) a y c)) stays) l kd (λ p. record { worth! = p .1 ∙ e; stored = λ z. no z })
-              (settle-ok t ways v _ k (setRow σ₂ k (with (mk Next s a b c nm) a y c)) stays (λ p i. tt)))
-
-          go : (σ₁ : St) (x : ℕ) (m : Mark) → Goes t ways v (P × (v x ≡ v a)) σ₁ (λ r. v r ≡ v k)
-              (notReplaced k m σ₁ >>= λ σ₂. vis σ₂ b >>= λ p. settle t ways k (setRow (p .0) k (with (mk Next s a b c nm) a (p .1) c)) stays)
-          go σ₁ x fresh = last _ σ₁
-          go σ₁ x kept = last _ σ₁
-          go σ₁ x (replaced r) = tt
+          bind t ways v P σ (λ state. v state ≡ v a) (λ r. v r ≡ v k) (vis σ a) _ (vis-ok P σ a (inside (g .before .0) l))
+          (λ σ₁ state. bind t ways v _ σ₁ (λ y. v y ≡ v b) (λ r. v r ≡ v k) (vis σ₁ b) _ (vis-ok _ σ₁ b (inside (g .before .1 .0) l))
+          (λ σ₂ y. stored ((P × (v state ≡ v a)) × (v y ≡ v b)) σ₂ k (with nd a y c) (λ r. v r ≡ v k)
+          (settle t ways k (setRow σ₂ k (with nd a y c)) stays) l kd (λ p. record { worth! = p .1 ∙ e; stored = λ z. no z })
+          (settle-ok t ways v _ k (setRow σ₂ k (with nd a y c)) stays (λ p i. tt))))
       process-at Input kd e g = settle-ok t ways v P k σ stays (λ p i. tt)
       process-at Bad kd e g =
           unary-ok P σ k (mk Bad s a b c nm) l kd (λ x. stays) (inside (g .before .0) l) (λ x hx. record { worth! = hx ∙ e; stored = λ z. no z }) (λ x cx hx kx. tt)

@@ -27,3 +27,4 @@ pub mod Text
 pub mod Reader
 pub mod Numbered
 pub mod Worked
+pub mod KeptState

@@ -33,12 +33,6 @@ abbrev pub branch : Option ℕ → Branch
 branch none = undecided
 branch (some x) = cond (eqb x 1) left (cond (eqb x 0) right undecided)
 
--- 9: "a kept Next's state is replaced", naming the Next k
-abbrev pub notReplaced : ℕ → Mark → St → Out St
-notReplaced k fresh σ = done σ
-notReplaced k kept σ = done σ
-notReplaced k (replaced r) σ = refuse 9 1 k
-
 -- ---- "A visit of a node first visits its operands in order and puts what stands for each of them into the node's row."
 module _ (vis : St → ℕ → Out (St × ℕ)) where
   unfoldable pub visit1 : St → ℕ → Node → Out (St × ℕ)
@@ -127,7 +121,8 @@ module _ (t : List Node) (ways : Ways) where
       (σ₂, z) ← vis σ₁ (nd .c)
       finish k (setRow σ₂ k (with nd x y z)) stays (askIte (ways .replyCount) (length t) (nd .sort) k x y z)
 
-    -- a Next "visits its state, then its next value"; a State "with an init: stays, and its row has what stands for the init"
+    -- a Next "visits its state, then its next value": what stands for its state is that State itself (KeptState)
+    -- a State "with an init: stays, and its row has what stands for the init"
     unfoldable pub process : Kind → St → ℕ → Node → Out (St × ℕ)
     process Const σ k nd = settle k σ (foldConst (length t) (nd .sort) (nd .a))
     process Read σ k nd = do
@@ -148,10 +143,9 @@ module _ (t : List Node) (ways : Ways) where
     process Not σ k nd = unary σ k nd (foldNot (length t) (nd .sort))
     process State σ k nd = elim (eqb (nd .b) 1) [ true ↦ unary σ k nd (λ x. stays) | false ↦ takeInput σ k nd (σ .inputs) ]
     process Next σ k nd = do
-      (σ₁, x) ← vis σ (nd .a)
-      σ₂ ← notReplaced k (σ₁ .mark (nd .a)) σ₁
-      (σ₃, y) ← vis σ₂ (nd .b)
-      settle k (setRow σ₃ k (with nd (nd .a) y (nd .c))) stays
+      (σ₁, state) ← vis σ (nd .a)
+      (σ₂, y) ← vis σ₁ (nd .b)
+      settle k (setRow σ₂ k (with nd (nd .a) y (nd .c))) stays
     process Input σ k nd = settle k σ stays
     process Bad σ k nd = unary σ k nd (λ x. stays)
 

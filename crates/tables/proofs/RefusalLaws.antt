@@ -1,24 +1,29 @@
--- No refusal has the number 0.
+-- Each refusal has a number of the rules' list, so none has the number 0.
 -- Assumes nothing.
 use Prim.Native.Nat.{_<_}
-use lib.Dec.{lit<}
+use mathlib.Core.Path.{refl}
+use Rattle.rules.proofs.Numbered.{reason-positive}
 use Rattle.tables.specs.declared.refusal.Refusal.{Refusal}
-use Rattle.tables.specs.Refusals.{refusalOf}
+use Rattle.tables.specs.Refusals.{refusalOf, RefusalsListed}
+
+pub listed : RefusalsListed
+unfolding RefusalsListed
+listed Refusal.Mode = refl
+listed (Refusal.Short s) = refl
+listed (Refusal.OverLimit s) = refl
+listed (Refusal.Malformed k) = refl
+listed (Refusal.OperandNotBefore k) = refl
+listed (Refusal.Sorts k) = refl
+listed (Refusal.Entry s k) = refl
+listed (Refusal.SecondSequential k) = refl
+listed (Refusal.MemoryInput k) = refl
+listed (Refusal.InputTooWide k) = refl
+listed (Refusal.Reply k) = refl
+listed Refusal.ResultRoom = refl
+listed Refusal.ScratchRoom = refl
+listed (Refusal.AlwaysTrue s k) = refl
+listed (Refusal.Satisfiable s k) = refl
 
 pub numbered : (z : Refusal) → 0 < refusalOf z .reason
-numbered Refusal.Mode = lit< tt
-numbered (Refusal.Short s) = lit< tt
-numbered (Refusal.OverLimit s) = lit< tt
-numbered (Refusal.Malformed k) = lit< tt
-numbered (Refusal.OperandNotBefore k) = lit< tt
-numbered (Refusal.Sorts k) = lit< tt
-numbered (Refusal.Entry s k) = lit< tt
-numbered (Refusal.SecondSequential k) = lit< tt
-numbered (Refusal.MemoryInput k) = lit< tt
-numbered (Refusal.ReplacedState k) = lit< tt
-numbered (Refusal.InputTooWide k) = lit< tt
-numbered (Refusal.Reply k) = lit< tt
-numbered Refusal.ResultRoom = lit< tt
-numbered Refusal.ScratchRoom = lit< tt
-numbered (Refusal.AlwaysTrue s k) = lit< tt
-numbered (Refusal.Satisfiable s k) = lit< tt
+unfolding RefusalsListed
+numbered z = reason-positive (refusalOf z .reason) (listed z)

@@ -21,8 +21,6 @@ pub enum Refusal {
     SecondSequential(usize),
     // 8: a memory State that would take an input.
     MemoryInput(usize),
-    // 9: a kept Next whose state is replaced.
-    ReplacedState(usize),
     // 10: a State whose input is too wide.
     InputTooWide(usize),
     // 11: a reply that its question cannot have.
@@ -51,7 +49,6 @@ impl Refusal {
             Refusal::Entry(_, _) => 6,
             Refusal::SecondSequential(_) => 7,
             Refusal::MemoryInput(_) => 8,
-            Refusal::ReplacedState(_) => 9,
             Refusal::InputTooWide(_) => 10,
             Refusal::Reply(_) => 11,
             Refusal::ResultRoom => 12,
@@ -75,7 +72,6 @@ impl Refusal {
             Refusal::Entry(section, _) => section,
             Refusal::SecondSequential(_) => 2,
             Refusal::MemoryInput(_) => 1,
-            Refusal::ReplacedState(_) => 1,
             Refusal::InputTooWide(_) => 1,
             Refusal::Reply(_) => 6,
             Refusal::ResultRoom => 8,
@@ -99,7 +95,6 @@ impl Refusal {
             Refusal::Entry(_, place) => place,
             Refusal::SecondSequential(place) => place,
             Refusal::MemoryInput(node) => node,
-            Refusal::ReplacedState(node) => node,
             Refusal::InputTooWide(node) => node,
             Refusal::Reply(place) => place,
             Refusal::ResultRoom => 0,

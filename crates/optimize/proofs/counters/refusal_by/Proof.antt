@@ -1,4 +1,4 @@
--- A refusal for each number, in the order of specs/Counters; no number past the last.
+-- A refusal for each number, in the order of specs/Counters; none for 9, and no number past the last.
 -- Assumes nothing.
 use borrow.Author.Needs.{needs}
 use mathlib.Core.Path.{sym}
@@ -74,38 +74,35 @@ returns-10 c = rw (c .match .keys10)
 
 returns-11 : tie.Need-returns-11
 unfolding refusalBy
-returns-11 c = rw (c .match .keys11)
+returns-11 c =
+    let at-match = c .before in
+    let start = at-match .before in
+    rw (at-match .match .keys11) (room-is (start .args .position) true (eq-eqb (start .args .position) 0 (c .if1 .taken)))
 
 returns-12 : tie.Need-returns-12
 unfolding refusalBy
 returns-12 c =
     let at-match = c .before in
     let start = at-match .before in
-    rw (at-match .match .keys12) (room-is (start .args .position) true (eq-eqb (start .args .position) 0 (c .if1 .taken)))
+    rw (at-match .match .keys11) (room-is (start .args .position) false (ne-eqb (start .args .position) 0 (c .if1 .left)))
 
 returns-13 : tie.Need-returns-13
 unfolding refusalBy
 returns-13 c =
     let at-match = c .before in
-    let start = at-match .before in
-    rw (at-match .match .keys12) (room-is (start .args .position) false (ne-eqb (start .args .position) 0 (c .if1 .left)))
+    rw (at-match .match .keys12, c .wide4 .ensures)
 
 returns-14 : tie.Need-returns-14
 unfolding refusalBy
 returns-14 c =
     let at-match = c .before in
-    rw (at-match .match .keys13, c .wide4 .ensures)
+    rw (at-match .match .keys13, c .wide5 .ensures)
 
 returns-15 : tie.Need-returns-15
-unfolding refusalBy
 returns-15 c =
-    let at-match = c .before in
-    rw (at-match .match .keys14, c .wide5 .ensures)
-
-returns-16 : tie.Need-returns-16
-returns-16 c =
     let start = c .before in
-    sym (refusal-none (start .args .section) (start .args .position) (start .args .number) (λ z. lt-irrefl _ (lt-of-lt-of-le (z .1) (rises (rises (rises (rises (rises (rises (rises (rises (rises (rises (rises (rises (rises (rises (z .0) (c .match .rest .0 .0 .0 .0 .0 .0 .0 .0 .0 .0 .0 .0 .0 .1)) (c .match .rest .0 .0 .0 .0 .0 .0 .0 .0 .0 .0 .0 .0 .1)) (c .match .rest .0 .0 .0 .0 .0 .0 .0 .0 .0 .0 .0 .1)) (c .match .rest .0 .0 .0 .0 .0 .0 .0 .0 .0 .0 .1)) (c .match .rest .0 .0 .0 .0 .0 .0 .0 .0 .0 .1)) (c .match .rest .0 .0 .0 .0 .0 .0 .0 .0 .1)) (c .match .rest .0 .0 .0 .0 .0 .0 .0 .1)) (c .match .rest .0 .0 .0 .0 .0 .0 .1)) (c .match .rest .0 .0 .0 .0 .0 .1)) (c .match .rest .0 .0 .0 .0 .1)) (c .match .rest .0 .0 .0 .1)) (c .match .rest .0 .0 .1)) (c .match .rest .0 .1)) (c .match .rest .1)))))
+    let rest = c .match .rest in
+    sym (refusal-none (start .args .section) (start .args .position) (start .args .number) (λ z nine. lt-irrefl _ (lt-of-lt-of-le (z .1) (rises (rises (rises (rises (rises (rises (rises (rises (rises (rises (rises (rises (rises (rises (z .0) (rest .0 .0 .0 .0 .0 .0 .0 .0 .0 .0 .0 .0 .1)) (rest .0 .0 .0 .0 .0 .0 .0 .0 .0 .0 .0 .1)) (rest .0 .0 .0 .0 .0 .0 .0 .0 .0 .0 .1)) (rest .0 .0 .0 .0 .0 .0 .0 .0 .0 .1)) (rest .0 .0 .0 .0 .0 .0 .0 .0 .1)) (rest .0 .0 .0 .0 .0 .0 .0 .1)) (rest .0 .0 .0 .0 .0 .0 .1)) (rest .0 .0 .0 .0 .0 .1)) nine) (rest .0 .0 .0 .0 .1)) (rest .0 .0 .0 .1)) (rest .0 .0 .1)) (rest .0 .1)) (rest .1)))))
 
 pub refusal-by-spec : {M : Type 1} → statement M
-refusal-by-spec = tie.close (tie.spec wide-requires wide-requires-2 wide-requires-3 wide-requires-4 wide-requires-5 returns returns-2 returns-3 returns-4 returns-5 returns-6 returns-7 returns-8 returns-9 returns-10 returns-11 returns-12 returns-13 returns-14 returns-15 returns-16)
+refusal-by-spec = tie.close (tie.spec wide-requires wide-requires-2 wide-requires-3 wide-requires-4 wide-requires-5 returns returns-2 returns-3 returns-4 returns-5 returns-6 returns-7 returns-8 returns-9 returns-10 returns-11 returns-12 returns-13 returns-14 returns-15)

@@ -1,0 +1,123 @@
+-- A kept Next's state is never replaced, so the walk does not look whether it is, and 9, the refusal of that, is withdrawn (docs/FORMAT.md, "Folding", "Refusals").
+--     ComesTo, StatesStay      the walk of a model comes to a kept Next; its state then stands for itself, and a test of it would change nothing
+--     KeptState                of every model whose table and sequentials pass
+--     KeptStateOfCall          of every call that comes to the walk, by any entry point and in any mode
+--     TableNeeded, SixNeeded, SevenNeeded    without one of the premises a kept Next's state can be replaced; TestMeant   and the test would refuse it
+--     KeptWorked               a call with a kept Next: below its state an input is taken and a question put, and its init is rewritten
+-- Assumes nothing.
+use Prim.Native.Nat.{ℕ}
+use mathlib.Core.Path.{_≡_}
+use mathlib.Core.Logic.{_≢_}
+use mathlib.Core.Bool.{false}
+use mathlib.Core.List.{List, [], _∷_, _++_}
+use Rattle.rules.specs.Lists.{All}
+use Rattle.rules.specs.Refusal.{Out, done, refuse, _>>=_}
+use Rattle.rules.specs.Table.{Row, Node, nodeAt, with}
+use Rattle.rules.specs.Model.{Model, Mode, modelOf}
+use Rattle.rules.specs.Legal.{AllLegal, Sequential, Once}
+use Rattle.rules.specs.Walk.{St, Mark, fresh, kept, replaced, Held, start, setRow}
+use Rattle.rules.specs.Fold.{stays}
+use Rattle.rules.specs.Questions.{alwaysTrue, question}
+use Rattle.rules.specs.Visit.{Ways, settle, visit}
+use Rattle.rules.specs.Whole.{waysOf, judgeSequentials, visitAll, Folded, fold}
+use Rattle.rules.specs.Limits.{Limits, house}
+use Rattle.rules.specs.Call.{Entry, impl, Call, Accepted, modelFrom, brought, outcome, Judged, judged}
+use Rattle.rules.specs.Cases.{row, mode0, callOf}
+use Rattle.rules.specs.Worked.{OfAccepted}
+
+-- the walk's state once the sequentials are judged, and the kept ones
+abbrev pub begun : Model → St × List ℕ
+begun m = judgeSequentials (m .table) (start (m .table) (m .inputs) (m .replies)) (m .sequentials)
+
+-- "Then the kept Nexts are visited in order": the walk comes to the Next k with σ
+pub record ComesTo (m : Model) (how : Mode) (k : ℕ) (σ : St) : Type 0 where
+  pub before : List ℕ
+  pub after : List ℕ
+  pub kept : begun m .1 ≡ before ++ (k ∷ after)
+  pub walked : visitAll (m .table) (waysOf m how) (begun m .0) before ≡ done σ
+
+-- ---- the visits of the kept Nexts with the test that was made: 9, at the Next, where its state is replaced
+module _ (t : List Node) (ways : Ways) where
+  abbrev pub unlessReplaced : ℕ → Mark → St → Out St
+  unlessReplaced k fresh σ = done σ
+  unlessReplaced k kept σ = done σ
+  unlessReplaced k (replaced r) σ = refuse 9 1 k
+
+  abbrev pub testedNext : St → ℕ → Node → Out (St × ℕ)
+  testedNext σ k nd = do
+    (σ₁, state) ← visit t ways k σ (nd .a)
+    σ₂ ← unlessReplaced k (σ₁ .mark (nd .a)) σ₁
+    (σ₃, y) ← visit t ways k σ₂ (nd .b)
+    settle t ways k (setRow σ₃ k (with nd (nd .a) y (nd .c))) stays
+
+  abbrev pub testedMarked : Mark → St → ℕ → Out (St × ℕ)
+  testedMarked fresh σ k = testedNext σ k (nodeAt t k)
+  testedMarked kept σ k = done (σ, k)
+  testedMarked (replaced r) σ k = done (σ, r)
+
+  unfoldable pub testedAll : St → List ℕ → Out St
+  testedAll σ [] = done σ
+  testedAll σ (k ∷ ks) = testedMarked (σ .mark k) σ k >>= λ p. testedAll (p .0) ks
+
+-- ---- the theorem
+module _ (m : Model) (how : Mode) where
+  -- when a kept Next visits its state, that stays and stands for itself; with the test the walk is the same; at the end no kept Next's state is replaced
+  pub record StatesStay : Type 0 where
+    pub visited : (k : ℕ) (σ : St) (p : St × ℕ) → ComesTo m how k σ → visit (m .table) (waysOf m how) k σ (nodeAt (m .table) k .a) ≡ done p
+        → (p .0 .mark (nodeAt (m .table) k .a) ≡ kept) × (p .1 ≡ nodeAt (m .table) k .a)
+    pub tested : testedAll (m .table) (waysOf m how) (begun m .0) (begun m .1) ≡ visitAll (m .table) (waysOf m how) (begun m .0) (begun m .1)
+    pub ended : (f : Folded) → fold m how ≡ done f → All (λ k. (r : ℕ) → f .state .mark (nodeAt (m .table) k .a) ≢ replaced r) (f .sequentials)
+
+-- by 5 a Next is of a State, by 6 that has an init, by 7 no other listed Next is of it
+unfoldable pub KeptState : Type 0
+KeptState = (m : Model) (how : Mode) → AllLegal (m .table) → All (Sequential (m .table)) (m .sequentials) → Once (m .table) (m .sequentials) → StatesStay m how
+
+-- 3 to 7 are judged before the walk, "in every mode"
+unfoldable pub KeptStateOfCall : Type 0
+KeptStateOfCall =
+    (limits : Limits) (entry : Entry) (call : Call) (j : Judged) → judged limits call ≡ done j
+    → StatesStay (modelFrom (j .names) (brought entry (j .sections))) (j .how)
+
+-- ---- each premise is needed
+unfoldable pub TableNeeded : Type 0
+TableNeeded = ((m : Model) (how : Mode) → All (Sequential (m .table)) (m .sequentials) → Once (m .table) (m .sequentials) → StatesStay m how) → ⊥
+
+unfoldable pub SixNeeded : Type 0
+SixNeeded = ((m : Model) (how : Mode) → AllLegal (m .table) → Once (m .table) (m .sequentials) → StatesStay m how) → ⊥
+
+unfoldable pub SevenNeeded : Type 0
+SevenNeeded = ((m : Model) (how : Mode) → AllLegal (m .table) → All (Sequential (m .table)) (m .sequentials) → StatesStay m how) → ⊥
+
+-- two Nexts of the State 1, which 7 would refuse: 3, the State itself, is dropped, and 4 is kept
+abbrev pub twiceRows : List Row
+twiceRows = row 1 2 3 0 0 0 ∷ row 19 2 0 1 0 0 ∷ row 1 2 5 0 0 0 ∷ row 20 2 1 1 0 0 ∷ row 20 2 1 2 0 0 ∷ []
+
+abbrev pub twice : Model
+twice = modelOf twiceRows (λ k. false) (3 ∷ 4 ∷ []) [] [] [] []
+
+unfoldable pub TestMeant : Type 0
+TestMeant = testedAll (twice .table) (waysOf twice mode0) (begun twice .0) (begun twice .1) ≡ refuse 9 1 4
+
+-- ---- 0 an Input, 1 a State that takes the input 7, 2 whether 0 is below 1, 3 a State whose init is 2, 4 a one, 5 the Next of 3, which is 4. Under minimise,
+-- with the reply that 2 is always true. By the visit of 3 the input is taken and the question put, and 7, the shared true, is its init.
+abbrev pub keptRows : List Row
+keptRows = row 21 2 0 0 0 1 ∷ row 19 2 0 0 0 0 ∷ row 12 1 0 1 0 0 ∷ row 19 1 2 1 0 0 ∷ row 1 1 1 0 0 0 ∷ row 20 1 3 4 0 0 ∷ []
+
+abbrev pub keptCall : Call
+keptCall = callOf 1 (record { rows = keptRows; sequentials = 5 ∷ []; initial = []; later = []; inputs = 7 ∷ []; replies = 1 ∷ [] })
+
+abbrev pub keptHeld : List Held
+keptHeld = record { state = 1; by = 8 } ∷ []
+
+pub record KeptNext (a : Accepted) : Type 0 where
+  pub comes : ComesTo (a .model) (a .how) 5 (begun (a .model) .0)
+  pub visits : (p : St × ℕ) × (visit (a .model .table) (waysOf (a .model) (a .how)) 5 (begun (a .model) .0) 3 ≡ done p)
+  pub sequentials : a .folded .sequentials ≡ 5 ∷ []
+  pub held : a .folded .state .held ≡ keptHeld
+  pub asked : a .folded .state .asked ≡ question alwaysTrue 2 0 [] 1 ∷ []
+  pub init : a .folded .state .rows 3 .a ≡ 7
+  pub state : a .folded .state .rows 5 .a ≡ 3
+  pub stays : a .folded .state .mark 3 ≡ kept
+
+unfoldable pub KeptWorked : Type 0
+KeptWorked = OfAccepted KeptNext (outcome house impl keptCall)
