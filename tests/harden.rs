@@ -128,7 +128,7 @@ fn is_answer(printed: &[u8]) -> bool {
     let Ok(text) = std::str::from_utf8(printed) else { return false };
     let Some(text) = text.strip_suffix('\n') else { return false };
     if let Some(rest) = text.strip_prefix("refused ") {
-        return numbers(rest).is_some_and(|n| n.len() == 3 && (1..=14).contains(&n[0]) && n[1] <= 8);
+        return numbers(rest).is_some_and(|n| n.len() == 3 && (1..=14).contains(&n[0]) && n[0] != 9 && n[1] <= 8);
     }
     let lines: Vec<&str> = text.split('\n').collect();
     let widths = [6, 2, 2, 1, 1, 1, 1, 4, 1];

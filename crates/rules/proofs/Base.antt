@@ -71,6 +71,10 @@ pub if-bind : {A B : Type 0} (P : A → Type 0) (Q : B → Type 0) (m : Out A) (
 if-bind P Q (refused r) f h g = tt
 if-bind P Q (done x) f h g = g x h
 
+pub if-after : {A B : Type 0} (Q : B → Type 0) (m : Out A) (f : A → Out B) → ((x : A) → If Q (f x)) → If Q (m >>= f)
+if-after Q (refused r) f g = tt
+if-after Q (done x) f g = g x
+
 pub if-map : {A : Type 0} (P Q : A → Type 0) (m : Out A) → ((x : A) → P x → Q x) → If P m → If Q m
 if-map P Q (refused r) f h = tt
 if-map P Q (done x) f h = f x h

@@ -18,40 +18,41 @@ use Rattle.rules.specs.Fold.{Fold, stays, constOf}
 use Rattle.rules.specs.Laws.{VisitRule}
 use Rattle.rules.specs.Visit.{Ways, Branch, left, right, undecided, branch, visit1, visit2, visit3, unary, binary, iteOn, takeInput, process, visitMarked, visit, visitTop}
 
-bind-same : {A B : Type 0} (m m′ : Out A) (f f′ : A → Out B) → m ≡ m′ → ((x : A) → f x ≡ f′ x) → (m >>= f) ≡ (m′ >>= f′)
+pub bind-same : {A B : Type 0} (m m′ : Out A) (f f′ : A → Out B) → m ≡ m′ → ((x : A) → f x ≡ f′ x) → (m >>= f) ≡ (m′ >>= f′)
 bind-same m m′ f f′ e h = ap₂ (λ (o : Out _) (g : _ → Out _). o >>= g) e (fun-ext h)
 
 module _ (t : List Node) (ways : Ways) where
-  module _ (u v : St → ℕ → Out (St × ℕ)) (k : ℕ) (same : (σ : St) (j : ℕ) → j < k → u σ j ≡ v σ j) (σ : St) (nd : Node) where
-    visit1-same : nd .a < k → visit1 u σ k nd ≡ visit1 v σ k nd
+  -- visits that agree on a node's operands process it alike
+  module _ (u v : St → ℕ → Out (St × ℕ)) (k : ℕ) (S : ℕ → Type 0) (same : (σ : St) (j : ℕ) → S j → u σ j ≡ v σ j) (σ : St) (nd : Node) where
+    visit1-same : S (nd .a) → visit1 u σ k nd ≡ visit1 v σ k nd
     unfolding visit1
     visit1-same ha = bind-same _ _ _ _ (same σ (nd .a) ha) (λ p. refl)
 
-    visit2-same : nd .a < k → nd .b < k → visit2 u σ k nd ≡ visit2 v σ k nd
+    visit2-same : S (nd .a) → S (nd .b) → visit2 u σ k nd ≡ visit2 v σ k nd
     unfolding visit2
     visit2-same ha hb = bind-same _ _ _ _ (same σ (nd .a) ha) (λ p. bind-same _ _ _ _ (same (p .0) (nd .b) hb) (λ q. refl))
 
-    visit3-same : nd .a < k → nd .b < k → nd .c < k → visit3 u σ k nd ≡ visit3 v σ k nd
+    visit3-same : S (nd .a) → S (nd .b) → S (nd .c) → visit3 u σ k nd ≡ visit3 v σ k nd
     unfolding visit3
     visit3-same ha hb hc =
         bind-same _ _ _ _ (same σ (nd .a) ha) (λ p. bind-same _ _ _ _ (same (p .0) (nd .b) hb) (λ q. bind-same _ _ _ _ (same (q .0) (nd .c) hc) (λ r. refl)))
 
-    unary-same : (fold : Option ℕ → Fold) → nd .a < k → unary t ways u σ k nd fold ≡ unary t ways v σ k nd fold
+    unary-same : (fold : Option ℕ → Fold) → S (nd .a) → unary t ways u σ k nd fold ≡ unary t ways v σ k nd fold
     unfolding unary
     unary-same fold ha = bind-same _ _ _ _ (visit1-same ha) (λ p. refl)
 
-    binary-same : (fold : ℕ → ℕ → Option ℕ → Option ℕ → Fold) (more : St → Out (St × Fold)) → nd .a < k → nd .b < k
+    binary-same : (fold : ℕ → ℕ → Option ℕ → Option ℕ → Fold) (more : St → Out (St × Fold)) → S (nd .a) → S (nd .b)
         → binary t ways u σ k nd fold more ≡ binary t ways v σ k nd fold more
     unfolding binary
     binary-same fold more ha hb = bind-same _ _ _ _ (visit2-same ha hb) (λ p. refl)
 
-    iteOn-same : (σ₁ : St) (x : ℕ) (c : Branch) → nd .b < k → nd .c < k → iteOn t ways u σ₁ k nd x c ≡ iteOn t ways v σ₁ k nd x c
+    iteOn-same : (σ₁ : St) (x : ℕ) (c : Branch) → S (nd .b) → S (nd .c) → iteOn t ways u σ₁ k nd x c ≡ iteOn t ways v σ₁ k nd x c
     unfolding iteOn
     iteOn-same σ₁ x left hb hc = bind-same _ _ _ _ (same σ₁ (nd .b) hb) (λ p. refl)
     iteOn-same σ₁ x right hb hc = bind-same _ _ _ _ (same σ₁ (nd .c) hc) (λ p. refl)
     iteOn-same σ₁ x undecided hb hc = bind-same _ _ _ _ (same σ₁ (nd .b) hb) (λ p. bind-same _ _ _ _ (same (p .0) (nd .c) hc) (λ q. refl))
 
-    process-same : (K : Kind) → All (λ x. x < k) (operandsAs K nd) → process t ways u K σ k nd ≡ process t ways v K σ k nd
+    pub process-same : (K : Kind) → All S (operandsAs K nd) → process t ways u K σ k nd ≡ process t ways v K σ k nd
     unfolding process
     process-same Const g = refl
     process-same Read g = bind-same _ _ _ _ (visit2-same (g .0) (g .1 .0)) (λ p. refl)
@@ -66,7 +67,7 @@ module _ (t : List Node) (ways : Ways) where
     process-same Not g = unary-same _ (g .0)
     process-same State g = go (eqb (nd .b) 1) g
       where
-        go : (b : Bool) → All (λ x. x < k) (cond b (nd .a ∷ []) [])
+        go : (b : Bool) → All S (cond b (nd .a ∷ []) [])
             → _≡_ {A = Out (St × ℕ)} (elim b [ true ↦ unary t ways u σ k nd (λ x. stays) | false ↦ takeInput t ways σ k nd (σ .inputs) ])
             (elim b [ true ↦ unary t ways v σ k nd (λ x. stays) | false ↦ takeInput t ways σ k nd (σ .inputs) ])
         go true h = unary-same _ (h .0)
@@ -83,7 +84,7 @@ module _ (t : List Node) (ways : Ways) where
   module _ (legal : AllLegal t) where
     marked-same : (u v : St → ℕ → Out (St × ℕ)) (m : Mark) (σ : St) (k : ℕ) → k < length t → ((σ : St) (j : ℕ) → j < k → u σ j ≡ v σ j)
         → visitMarked t ways u m σ k ≡ visitMarked t ways v m σ k
-    marked-same u v fresh σ k l h = process-same u v k h σ (nodeAt t k) (nodeAt t k .kind) (legal k l .before)
+    marked-same u v fresh σ k l h = process-same u v k (λ j. j < k) h σ (nodeAt t k) (nodeAt t k .kind) (legal k l .before)
     marked-same u v kept σ k l h = refl
     marked-same u v (replaced r) σ k l h = refl
 

@@ -22,7 +22,7 @@ use Rattle.rules.specs.Sections.{rowsWords, encode, cutSection, rowsOf, 
 use Rattle.rules.specs.Names.{cutNames, countedNames, namesOf, startsWith}
 use Rattle.rules.specs.Call.{judgeMode, judgeRoom, judgeAndFold, judgeCut, outcome}
 use Rattle.rules.specs.Cases.{row, mode0}
-use Rattle.rules.specs.KeptState.{begun, testedAll, TableNeeded, SixNeeded, SevenNeeded, twiceRows, twice, TestMeant, KeptWorked}
+use Rattle.rules.specs.KeptState.{begun, testedVisit, testedAll, TableNeeded, SixNeeded, SevenNeeded, twiceRows, twice, TestMeant, KeptWorked}
 use Rattle.rules.proofs.Check.{all-legal}
 
 -- ---- a model of some rows, Nexts and inputs, and its first kept Next
@@ -74,7 +74,7 @@ seven-needed h =
     kept≢replaced 0 _ (s .visited 4 (begun twice .0) _ (record { before = []; after = []; kept = refl; walked = refl }) (refl {a = done (came (visit (twice .table) (waysOf twice mode0) 4 (begun twice .0) 1))}) .0) refl
 
 pub test-meant : TestMeant
-unfolding TestMeant testedAll judgeSequentials visit
+unfolding TestMeant testedAll testedVisit judgeSequentials
 test-meant = refl
 
 -- ---- the call at work

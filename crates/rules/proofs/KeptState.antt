@@ -4,7 +4,7 @@
 use Prim.Native.Nat.{ℕ, zero, suc, _<_}
 use mathlib.Core.Path.{_≡_, refl, sym, ap, _∙_, subst}
 use mathlib.Core.Logic.{_≢_}
-use mathlib.Core.Bool.{Bool, true, false, cond, _&&_}
+use mathlib.Core.Bool.{Bool, true, false, cond, not, _&&_, _||_}
 use mathlib.Core.List.{List, [], _∷_, _++_}
 use native.Mathlib.Omega.{arith}
 use lib.ListN.{length}
@@ -12,9 +12,9 @@ use lib.Dec.{eqb}
 use borrow.Author.Tests.{eqb-true, eq-eqb}
 use Rattle.rules.specs.Lists.{put, All}
 use Rattle.rules.specs.Refusal.{Out, refused, done, _>>=_}
-use Rattle.rules.specs.Table.{State, Next, Node, kindCode, nodeAt, with}
+use Rattle.rules.specs.Table.{State, Next, Node, kindCode, nodeAt, is, operands, with}
 use Rattle.rules.specs.Model.{Model, Mode}
-use Rattle.rules.specs.Check.{check}
+use Rattle.rules.specs.Check.{mayServe, check}
 use Rattle.rules.specs.Legal.{AllLegal, Sequential, Once}
 use Rattle.rules.specs.Walk.{St, Mark, fresh, kept, replaced, setMark, setRow, start}
 use Rattle.rules.specs.Fold.{stays}
@@ -23,10 +23,11 @@ use Rattle.rules.specs.Whole.{waysOf, trivial, dropNext, judgeSequential
 use Rattle.rules.specs.Call.{Call, judgeMode, judgeRoom, needOf, modelFrom, brought, Judged, judged}
 use Rattle.rules.specs.Sections.{cut}
 use Rattle.rules.specs.Names.{namesOf}
-use Rattle.rules.specs.KeptState.{begun, ComesTo, unlessReplaced, testedMarked, testedAll, StatesStay, KeptState, KeptStateOfCall}
+use Rattle.rules.specs.KeptState.{begun, ComesTo, unlessReplaced, testedNext, testedMarked, testedVisit, testedAll, StatesStay, KeptState, KeptStateOfCall}
 use Rattle.btor.proofs.Agreement.{cases}
-use Rattle.rules.proofs.Base.{no, put-same, put-other, all-right, all-map, If, if-bind, if-always}
-use Rattle.rules.proofs.Legal.{state-ok, legal-as}
+use Rattle.rules.proofs.Base.{no, is-kind, kind-is, put-same, put-other, all-right, all-map, If, if-after}
+use Rattle.rules.proofs.Legal.{LegalAs, legal-as, state-ok}
+use Rattle.rules.proofs.Fuel.{bind-same, process-same}
 use Rattle.rules.proofs.Sections.{same-done, through}
 use Rattle.rules.proofs.Demand.{run-done}
 use Rattle.rules.proofs.Call.{formed}
@@ -101,7 +102,7 @@ module _ (t : List Node) where
 
     staying : (vis : St → ℕ → Out (St × ℕ)) (σ : St) (k : ℕ) (nd : Node) → If (Itself k) (unary t ways vis σ k nd (λ x. stays))
     unfolding unary settle
-    staying vis σ k nd = if-bind (λ p. Unit) (Itself k) (visit1 vis σ k nd) _ (if-always (λ p. Unit) (visit1 vis σ k nd) (λ p. tt)) (λ p _. (put-same (p .0 .mark) k kept, refl))
+    staying vis σ k nd = if-after (Itself k) (visit1 vis σ k nd) _ (λ p. (put-same (p .0 .mark) k kept, refl))
 
     stands : (f : ℕ) (σ : St) (k : ℕ) → nodeAt t k .kind ≡ State → nodeAt t k .b ≡ 1 → ((r : ℕ) → σ .mark k ≢ replaced r) → If (Itself k) (visit t ways (suc f) σ k)
     unfolding visit process
@@ -118,24 +119,70 @@ module _ (t : List Node) where
         go kept q = (q, refl)
         go (replaced r) q = absurd (n r q)
 
-    -- ---- with the test that was made
-    passes : (k a : ℕ) (o : Out (St × ℕ)) (more : St → Out (St × ℕ)) → If (Itself a) o → (o >>= λ p. unlessReplaced t ways k (p .0 .mark a) (p .0) >>= more) ≡ (o >>= λ p. more (p .0))
-    passes k a (refused r) more h = refl
-    passes k a (done p) more h = ap (λ m. unlessReplaced t ways k m (p .0) >>= more) (h .0)
+    -- ---- with the test that was made: any node but a Next, whose operands are no Nexts
+    module _ (legal : AllLegal t) where
+      not-next : (x : ℕ) → mayServe (nodeAt t x) ≡ true → is Next (nodeAt t x) ≡ false
+      not-next x h = go (is Next (nodeAt t x)) refl
+        where
+          go : (b : Bool) → is Next (nodeAt t x) ≡ b → b ≡ false
+          go true e = no (sym (ap (λ K. not (eqb (kindCode K) 20 || eqb (kindCode K) 22)) (is-kind Next (nodeAt t x) e)) ∙ h)
+          go false e = refl
 
-    tested-same : (σ : St) (k : ℕ) → nodeAt t k .kind ≡ Next → If (Itself (nodeAt t k .a)) (visit t ways k σ (nodeAt t k .a)) → testedMarked t ways (σ .mark k) σ k ≡ visitTop t ways σ k
-    unfolding visit process
-    tested-same σ k e h = go (σ .mark k)
-      where
-        nd : Node
-        nd = nodeAt t k
+      abbrev Plain : ℕ → ℕ → Type 0
+      Plain f x = (σ : St) → testedVisit t ways f σ x ≡ visit t ways f σ x
 
-        go : (m : Mark) → testedMarked t ways m σ k ≡ visitMarked t ways (visit t ways k) m σ k
-        go fresh =
-            passes k (nd .a) (visit t ways k σ (nd .a)) (λ σ₁. visit t ways k σ₁ (nd .b) >>= λ p. settle t ways k (setRow (p .0) k (with nd (nd .a) (p .1) (nd .c))) stays) h
-            ∙ ap (λ K. process t ways (visit t ways k) K σ k nd) (sym e)
-        go kept = refl
-        go (replaced r) = refl
+      -- with so much fuel, from the visits with less
+      module _ (f k : ℕ) (below : (x : ℕ) → x < k → is Next (nodeAt t x) ≡ false → Plain f x) where
+        operands-plain : (xs : List ℕ) → All (λ x. x < k) xs → All (λ x. mayServe (nodeAt t x) ≡ true) xs → All (Plain f) xs
+        operands-plain [] b s = tt
+        operands-plain (x ∷ xs) b s = (below x (b .0) (not-next x (s .0)), operands-plain xs (b .1) (s .1))
+
+        plain-marked : k < length t → is Next (nodeAt t k) ≡ false → (m : Mark) (σ : St) → testedMarked t ways (testedVisit t ways f) m σ k ≡ visitMarked t ways (visit t ways f) m σ k
+        plain-marked l e fresh σ =
+            let nd : Node = nodeAt t k in
+            let u : St → ℕ → Out (St × ℕ) = testedVisit t ways f in
+            ap (λ b. elim b as (λ _. Out (St × ℕ)) [ true ↦ testedNext t ways u σ k nd | false ↦ process t ways u (nd .kind) σ k nd ]) e
+            ∙ process-same t ways u (visit t ways f) k (Plain f) (λ σ x h. h σ) σ nd (nd .kind) (operands-plain (operands nd) (legal k l .before) (legal k l .serve))
+        plain-marked l e kept σ = refl
+        plain-marked l e (replaced r) σ = refl
+
+      plain : (f k : ℕ) (σ : St) → k < length t → is Next (nodeAt t k) ≡ false → testedVisit t ways f σ k ≡ visit t ways f σ k
+      unfolding testedVisit visit
+      plain zero k σ l e = refl
+      plain (suc f) k σ l e = plain-marked f k (λ x b n σ. plain f x σ (omega (arith, b, l)) n) l e (σ .mark k) σ
+
+      -- a Next for whose state itself stands
+      passes : (k a : ℕ) (o : Out (St × ℕ)) (more : St → Out (St × ℕ)) → If (Itself a) o → (o >>= λ p. unlessReplaced k (p .0 .mark a) (p .0) >>= more) ≡ (o >>= λ p. more (p .0))
+      passes k a (refused r) more h = refl
+      passes k a (done p) more h = ap (λ m. unlessReplaced k m (p .0) >>= more) (h .0)
+
+      tested-same : (σ : St) (k : ℕ) → Sequential t k → If (Itself (nodeAt t k .a)) (visit t ways k σ (nodeAt t k .a)) → testedVisit t ways (suc k) σ k ≡ visitTop t ways σ k
+      unfolding testedVisit visit process
+      tested-same σ k q h = go (σ .mark k)
+        where
+          nd : Node
+          nd = nodeAt t k
+
+          g : LegalAs t k Next nd
+          g = legal-as t k Next nd (q .next) (legal k (q .inside))
+
+          u : St → ℕ → Out (St × ℕ)
+          u = testedVisit t ways k
+
+          v : St → ℕ → Out (St × ℕ)
+          v = visit t ways k
+
+          alike : (σ : St) (x : ℕ) → x < k → mayServe (nodeAt t x) ≡ true → u σ x ≡ v σ x
+          alike σ x b s = plain k x σ (omega (arith, b, q .inside)) (not-next x s)
+
+          go : (m : Mark) → testedMarked t ways u m σ k ≡ visitMarked t ways v m σ k
+          go fresh =
+              ap (λ b. elim b as (λ _. Out (St × ℕ)) [ true ↦ testedNext t ways u σ k nd | false ↦ process t ways u (nd .kind) σ k nd ]) (kind-is Next nd (q .next))
+              ∙ bind-same _ _ _ _ (alike σ (nd .a) (g .before .0) (g .serve .0)) (λ p. bind-same (unlessReplaced k (p .0 .mark (nd .a)) (p .0)) (unlessReplaced k (p .0 .mark (nd .a)) (p .0)) _ _ refl (λ σ₁. bind-same _ _ _ _ (alike σ₁ (nd .b) (g .before .1 .0) (g .serve .1 .0)) (λ r. refl)))
+              ∙ passes k (nd .a) (v σ (nd .a)) (λ σ₁. v σ₁ (nd .b) >>= λ p. settle t ways k (setRow (p .0) k (with nd (nd .a) (p .1) (nd .c))) stays) h
+              ∙ ap (λ K. process t ways v K σ k nd) (sym (q .next))
+          go kept = refl
+          go (replaced r) = refl
 
     same-after : {A B : Type 0} (P : A → Type 0) (o : Out A) (f g : A → Out B) → If P o → ((x : A) → P x → f x ≡ g x) → (o >>= f) ≡ (o >>= g)
     same-after P (refused r) f g h e = refl
@@ -183,36 +230,32 @@ module _ (m : Model) (how : Mode) (legal : AllLegal (m .table)) (six : All (Sequ
   unfolding testedAll visitAll
   all-tested σ [] x h = refl
   all-tested σ (k ∷ ks) x h =
-      ap (λ (o : Out (St × ℕ)). o >>= λ p. testedAll t ways (p .0) ks) (tested-same t ways σ k (h .0 .0 .next) (itself σ k x (h .0)))
+      ap (λ (o : Out (St × ℕ)). o >>= λ p. testedAll t ways (p .0) ks) (tested-same t ways legal σ k (h .0 .0) (itself σ k x (h .0)))
       ∙ same-after t ways (λ p. Reached (p .0)) (visitTop t ways σ k) _ _ (further σ (suc k) k x) (λ p y. all-tested (p .0) ks y (h .1))
 
   -- ---- the end
   abbrev Lists : List ℕ → Folded → Type 0
   Lists ss f = f .sequentials ≡ ss
 
-  after : {A B : Type 0} (P : B → Type 0) (o : Out A) (f : A → Out B) → ((x : A) → If P (f x)) → If P (o >>= f)
-  after P (refused r) f h = tt
-  after P (done x) f h = h x
-
   listed : (q : Bool) (σ : St) (ss : List ℕ) → If (Lists ss) (foldBads m how q σ ss)
   unfolding foldBads
-  listed true σ ss = after (Lists ss) (bads m how false true 3 σ (m .initial)) _ λ i. after (Lists ss) (lastQuestion m how (i .after) (i .stay)) _ λ p. refl
+  listed true σ ss = if-after (Lists ss) (bads m how false true 3 σ (m .initial)) _ λ i. if-after (Lists ss) (lastQuestion m how (i .after) (i .stay)) _ λ p. refl
   listed false σ ss =
-      after (Lists ss) (bads m how true (how .terminate) 3 σ (m .initial)) _ λ i. after (Lists ss) (bads m how true (how .terminate) 4 (i .after) (m .later)) _ λ l. refl
+      if-after (Lists ss) (bads m how true (how .terminate) 3 σ (m .initial)) _ λ i. if-after (Lists ss) (bads m how true (how .terminate) 4 (i .after) (m .later)) _ λ l. refl
 
   ended : (f : Folded) → fold m how ≡ done f → All (λ k. (r : ℕ) → f .state .mark (nodeAt t k .a) ≢ replaced r) (f .sequentials)
   unfolding fold
   ended f e =
       let x : Reached (f .state) = subst (Along t (Any t) (InitsStay t) (λ (f : Folded). f .state) (begun m .0)) e (fold-along m how (Any t) (InitsStay t) (steps t)) in
       let q : Lists (begun m .1) f =
-      subst (If (Lists (begun m .1))) e (after (Lists (begun m .1)) (visitAll t ways (begun m .0) (begun m .1)) _ λ σ. listed (how .oneQuery) σ (begun m .1)) in
+      subst (If (Lists (begun m .1))) e (if-after (Lists (begun m .1)) (visitAll t ways (begun m .0) (begun m .1)) _ λ σ. listed (how .oneQuery) σ (begun m .1)) in
       subst (All (λ k. (r : ℕ) → f .state .mark (nodeAt t k .a) ≢ replaced r)) (sym q)
       (all-map (Fresh t (begun m .0)) (λ k. (r : ℕ) → f .state .mark (nodeAt t k .a) ≢ replaced r) (not-replaced t legal (begun m .0) (f .state) x) (begun m .1) kept!)
 
 pub kept-state : KeptState
 unfolding KeptState
 kept-state m how legal six seven =
-    record { visited = visited m how legal six seven; tested = all-tested m how legal six seven (begun m .0) (begun m .1) (λ i h r q. q) (kept! m how legal six seven); ended = ended m how legal six seven }
+    record { visited = visited m how legal six seven; tested = all-tested m how legal six seven (begun m .0) (begun m .1) (λ i h r q. q) (kept! m how legal six seven); others = plain (m .table) (waysOf m how) legal; ended = ended m how legal six seven }
 
 -- ---- of a call
 pub kept-state-of-call : KeptStateOfCall

@@ -20,9 +20,9 @@ use Rattle.rules.specs.Sections.{Sections, cutSection, cutSix, noneLeft,
 use Rattle.rules.specs.Names.{cutNames, countedNames, namesOf}
 use Rattle.rules.specs.Call.{Entry, impl, Call, Accepted, judgeMode, needOf, judgeRoom, modelFrom, brought, judgeAndFold, judgeCut, outcome, answerOf}
 use Rattle.rules.specs.Text.{mostNumbers, programRoom, tokens, numberOf, judgeToken, numbersFrom, withMode, numbers, allNameBytes, namesInNumbers, afterNumbers, textOutcome}
-use Rattle.rules.specs.Numbered.{IsReason, Numbered, RefusalNumbers}
+use Rattle.rules.specs.Numbered.{IsReason, Numbered, walkReasons, WalkNumbers, RefusalNumbers}
 use Rattle.rules.proofs.Base.{no}
-use Rattle.rules.proofs.Along.{Along, fold-along}
+use Rattle.rules.proofs.Along.{Steps, Along, fold-along}
 
 -- ---- stages joined, and tests
 then : {A B : Type 0} (m : Out A) (f : A → Out B) → Numbered m → ((x : A) → Numbered (f x)) → Numbered (m >>= f)
@@ -33,16 +33,35 @@ either : {A : Type 0} (b : Bool) (x y : Out A) → Numbered x → Numbered y →
 either true x y h g = h
 either false x y h g = g
 
--- ---- the walk
-fold-numbered : (m : Model) (how : Mode) → Numbered (fold m how)
-fold-numbered m how =
-    go (fold m how)
-    (fold-along m how IsReason (λ σ σ′. Unit)
-    (record { still = λ σ σ′ e. tt; both = λ σ σ₁ σ₂ x y. tt; keeps = λ σ k. tt; replaces = λ σ k r i. tt; memoryInput = refl; wideInput = refl; wrongReply = refl; alwaysBad = refl; possiblyBad = refl }))
+-- ---- the walk: what holds of five numbers holds of each of its refusals
+walk-refuses : (Q : ℕ → Type 0) → Q 8 → Q 10 → Q 11 → Q 13 → Q 14 → (m : Model) (how : Mode) (r : Refusal) → fold m how ≡ refused r → Q (r .reason)
+walk-refuses Q memory wide reply always possibly m how r e =
+    subst (Along (m .table) Q (λ σ σ′. Unit) (λ (f : Folded). f .state) (begun m .0)) e (fold-along m how Q (λ σ σ′. Unit) steps)
   where
-    go : (o : Out Folded) → Along (m .table) IsReason (λ σ σ′. Unit) (λ (f : Folded). f .state) (begun m .0) o → Numbered o
-    go (refused r) h = h
-    go (done f) h = tt
+    steps : Steps (m .table) Q (λ σ σ′. Unit)
+    steps =
+        record {
+          still = λ σ σ′ e. tt;
+          both = λ σ σ₁ σ₂ x y. tt;
+          keeps = λ σ k. tt;
+          replaces = λ σ k r i. tt;
+          memoryInput = memory;
+          wideInput = wide;
+          wrongReply = reply;
+          alwaysBad = always;
+          possiblyBad = possibly;
+        }
+
+pub walk-numbers : WalkNumbers
+unfolding WalkNumbers
+walk-numbers = walk-refuses (λ n. member n walkReasons ≡ true) refl refl refl refl refl
+
+fold-numbered : (m : Model) (how : Mode) → Numbered (fold m how)
+fold-numbered m how = go (fold m how) refl
+  where
+    go : (o : Out Folded) → fold m how ≡ o → Numbered o
+    go (refused r) e = walk-refuses IsReason refl refl refl refl refl m how r e
+    go (done f) e = tt
 
 -- ---- refusals that may be none
 MaybeNumbered : Option Refusal → Type 0

@@ -5,20 +5,21 @@
 --     TableNeeded, SixNeeded, SevenNeeded    without one of the premises a kept Next's state can be replaced; TestMeant   and the test would refuse it
 --     KeptWorked               a call with a kept Next: below its state an input is taken and a question put, and its init is rewritten
 -- Assumes nothing.
-use Prim.Native.Nat.{ℕ}
+use Prim.Native.Nat.{ℕ, zero, suc, _<_}
 use mathlib.Core.Path.{_≡_}
 use mathlib.Core.Logic.{_≢_}
-use mathlib.Core.Bool.{false}
+use mathlib.Core.Bool.{true, false}
 use mathlib.Core.List.{List, [], _∷_, _++_}
+use lib.ListN.{length}
 use Rattle.rules.specs.Lists.{All}
 use Rattle.rules.specs.Refusal.{Out, done, refuse, _>>=_}
-use Rattle.rules.specs.Table.{Row, Node, nodeAt, with}
+use Rattle.rules.specs.Table.{Next, Row, Node, nodeAt, is, with}
 use Rattle.rules.specs.Model.{Model, Mode, modelOf}
 use Rattle.rules.specs.Legal.{AllLegal, Sequential, Once}
 use Rattle.rules.specs.Walk.{St, Mark, fresh, kept, replaced, Held, start, setRow}
 use Rattle.rules.specs.Fold.{stays}
 use Rattle.rules.specs.Questions.{alwaysTrue, question}
-use Rattle.rules.specs.Visit.{Ways, settle, visit}
+use Rattle.rules.specs.Visit.{Ways, settle, process, visit}
 use Rattle.rules.specs.Whole.{waysOf, judgeSequentials, visitAll, Folded, fold}
 use Rattle.rules.specs.Limits.{Limits, house}
 use Rattle.rules.specs.Call.{Entry, impl, Call, Accepted, modelFrom, brought, outcome, Judged, judged}
@@ -36,36 +37,43 @@ pub record ComesTo (m : Model) (how : Mode) (k : ℕ) (σ : St) : Type 0 where
   pub kept : begun m .1 ≡ before ++ (k ∷ after)
   pub walked : visitAll (m .table) (waysOf m how) (begun m .0) before ≡ done σ
 
--- ---- the visits of the kept Nexts with the test that was made: 9, at the Next, where its state is replaced
-module _ (t : List Node) (ways : Ways) where
-  abbrev pub unlessReplaced : ℕ → Mark → St → Out St
-  unlessReplaced k fresh σ = done σ
-  unlessReplaced k kept σ = done σ
-  unlessReplaced k (replaced r) σ = refuse 9 1 k
+-- ---- visits with the test that was made: 9, at the Next, where its state is replaced
+abbrev pub unlessReplaced : ℕ → Mark → St → Out St
+unlessReplaced k fresh σ = done σ
+unlessReplaced k kept σ = done σ
+unlessReplaced k (replaced r) σ = refuse 9 1 k
 
-  abbrev pub testedNext : St → ℕ → Node → Out (St × ℕ)
-  testedNext σ k nd = do
-    (σ₁, state) ← visit t ways k σ (nd .a)
+module _ (t : List Node) (ways : Ways) where
+  abbrev pub testedNext : (St → ℕ → Out (St × ℕ)) → St → ℕ → Node → Out (St × ℕ)
+  testedNext vis σ k nd = do
+    (σ₁, state) ← vis σ (nd .a)
     σ₂ ← unlessReplaced k (σ₁ .mark (nd .a)) σ₁
-    (σ₃, y) ← visit t ways k σ₂ (nd .b)
+    (σ₃, y) ← vis σ₂ (nd .b)
     settle t ways k (setRow σ₃ k (with nd (nd .a) y (nd .c))) stays
 
-  abbrev pub testedMarked : Mark → St → ℕ → Out (St × ℕ)
-  testedMarked fresh σ k = testedNext σ k (nodeAt t k)
-  testedMarked kept σ k = done (σ, k)
-  testedMarked (replaced r) σ k = done (σ, r)
+  -- every other node is processed as it is
+  abbrev pub testedMarked : (St → ℕ → Out (St × ℕ)) → Mark → St → ℕ → Out (St × ℕ)
+  testedMarked vis fresh σ k = elim (is Next (nodeAt t k)) [ true ↦ testedNext vis σ k (nodeAt t k) | false ↦ process t ways vis (nodeAt t k .kind) σ k (nodeAt t k) ]
+  testedMarked vis kept σ k = done (σ, k)
+  testedMarked vis (replaced r) σ k = done (σ, r)
+
+  unfoldable pub testedVisit : ℕ → St → ℕ → Out (St × ℕ)
+  testedVisit zero σ k = done (σ, k)
+  testedVisit (suc f) σ k = testedMarked (testedVisit f) (σ .mark k) σ k
 
   unfoldable pub testedAll : St → List ℕ → Out St
   testedAll σ [] = done σ
-  testedAll σ (k ∷ ks) = testedMarked (σ .mark k) σ k >>= λ p. testedAll (p .0) ks
+  testedAll σ (k ∷ ks) = testedVisit (suc k) σ k >>= λ p. testedAll (p .0) ks
 
 -- ---- the theorem
 module _ (m : Model) (how : Mode) where
-  -- when a kept Next visits its state, that stays and stands for itself; with the test the walk is the same; at the end no kept Next's state is replaced
+  -- when a kept Next visits its state, that stays and stands for itself; with the test the kept Nexts are visited alike, and so are all nodes but Nexts;
+  -- at the end no kept Next's state is replaced
   pub record StatesStay : Type 0 where
     pub visited : (k : ℕ) (σ : St) (p : St × ℕ) → ComesTo m how k σ → visit (m .table) (waysOf m how) k σ (nodeAt (m .table) k .a) ≡ done p
         → (p .0 .mark (nodeAt (m .table) k .a) ≡ kept) × (p .1 ≡ nodeAt (m .table) k .a)
     pub tested : testedAll (m .table) (waysOf m how) (begun m .0) (begun m .1) ≡ visitAll (m .table) (waysOf m how) (begun m .0) (begun m .1)
+    pub others : (f k : ℕ) (σ : St) → k < length (m .table) → is Next (nodeAt (m .table) k) ≡ false → testedVisit (m .table) (waysOf m how) f σ k ≡ visit (m .table) (waysOf m how) f σ k
     pub ended : (f : Folded) → fold m how ≡ done f → All (λ k. (r : ℕ) → f .state .mark (nodeAt (m .table) k .a) ≢ replaced r) (f .sequentials)
 
 -- by 5 a Next is of a State, by 6 that has an init, by 7 no other listed Next is of it

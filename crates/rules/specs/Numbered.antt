@@ -1,6 +1,6 @@
 -- The numbers of refusals: 0 is none of them, so an answer with number 0 is an acceptance; nor is 9 (docs/FORMAT.md, "Refusals").
 --     reasons            the numbers, rising           Numbered   what is said of an outcome
---     RefusalNumbers     of a call's outcome and of a text's
+--     RefusalNumbers     of a call's outcome and of a text's     WalkNumbers   of the walk alone
 -- Assumes nothing.
 use Prim.Native.Nat.{ℕ}
 use mathlib.Core.Path.{_≡_}
@@ -8,6 +8,8 @@ use mathlib.Core.Bool.{true}
 use mathlib.Core.List.{List, [], _∷_}
 use Rattle.rules.specs.Lists.{member}
 use Rattle.rules.specs.Refusal.{Refusal, Out, refused, done}
+use Rattle.rules.specs.Model.{Model, Mode}
+use Rattle.rules.specs.Whole.{fold}
 use Rattle.rules.specs.Limits.{Limits}
 use Rattle.rules.specs.Call.{Entry, Call, outcome}
 use Rattle.rules.specs.Text.{textOutcome}
@@ -23,6 +25,13 @@ IsReason n = member n reasons ≡ true
 abbrev pub Numbered : {A : Type 0} → Out A → Type 0
 Numbered (refused r) = IsReason (r .reason)
 Numbered (done x) = Unit
+
+-- "then 8, 10, 11, 13 and 14 as the walk meets them"
+abbrev pub walkReasons : List ℕ
+walkReasons = 8 ∷ 10 ∷ 11 ∷ 13 ∷ 14 ∷ []
+
+unfoldable pub WalkNumbers : Type 0
+WalkNumbers = (m : Model) (how : Mode) (r : Refusal) → fold m how ≡ refused r → member (r .reason) walkReasons ≡ true
 
 -- whatever is refused, by a call or by the program
 unfoldable pub RefusalNumbers : Type 0
