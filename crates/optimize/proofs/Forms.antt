@@ -5,15 +5,14 @@ use mathlib.Core.Path.{_≡_, refl, ap, sym, _∙_, subst}
 use mathlib.Core.Bool.{Bool, true, false, cond}
 use mathlib.Core.List.{List, [], _∷_}
 use native.Mathlib.Omega.{arith}
-use lib.ListN.{length}
 use lib.Dec.{eqb}
 use Rattle.rules.specs.Refusal.{Out, refused, done, _>>=_}
 use Rattle.rules.specs.Lists.{All}
-use Rattle.rules.specs.Table.{Kind, Const, Read, Write, Word, Ult, Ext, Ite, Eq, And, Or, Not, State, Next, Input, Bad, Node, kindOf, nodeAt, operandsAs}
+use Rattle.rules.specs.Table.{Kind, Const, Read, Write, Word, Ult, Ext, Ite, Eq, And, Or, Not, State, Next, Input, Bad, Node, kindOf, operandsAs}
 use Rattle.rules.specs.Legal.{AllLegal}
 use Rattle.rules.specs.Walk.{St}
 use Rattle.rules.specs.Fold.{stays, constOf}
-use Rattle.rules.specs.Visit.{Ways, Branch, left, right, undecided, branch, visit1, visit2, visit3, unary, binary, iteOn, takeInput, process, visit}
+use Rattle.rules.specs.Visit.{Ways, Branch, left, right, undecided, branch, visit1, visit2, visit3, unary, binary, iteOn, process, visit}
 use Rattle.optimize.specs.declared.form.Form.{Form}
 use Rattle.optimize.specs.View.{countOf, wordOf, nodeOf, tableOf, waysIn}
 use Rattle.optimize.specs.Folding.{foldTwo, foldOne, asksBit}
