@@ -47,7 +47,8 @@ tallied w looked passed = record { made = w .made; taken = w .taken; used = w .u
 abbrev pub roomAt : ℕ → Refusal
 roomAt p = elim (eqb p 0) [ true ↦ Refusal.ResultRoom | false ↦ Refusal.ScratchRoom ]
 
--- a refusal by its number, section and position; a mode over the highest reads as section 0 short, whose number and place are the same; none has 0 or 9
+-- a refusal by its number, section and position; a mode over the highest reads as section 0 short, whose number and place are the same;
+-- it stands at 0 and 9 too, which no refusal has
 abbrev pub refusalsAt : ℕ → ℕ → List Refusal
 refusalsAt s p =
     Refusal.Mode ∷ Refusal.Short s ∷ Refusal.OverLimit s ∷ Refusal.Malformed p ∷ Refusal.OperandNotBefore p ∷ Refusal.Sorts p ∷ Refusal.Entry s p

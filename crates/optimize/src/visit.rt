@@ -403,7 +403,7 @@ fn process_both(
     after_ite(given, call, result, scratch, counters, node, x, y, z)
 }
 
-// A Next: its state first, which stands for itself (rules/specs/KeptState.antt), then the next value.
+// A Next: its state first, for which no other node stands where the Next is kept (rules/specs/KeptState.antt), then the next value.
 fn process_next(
     given: &[u64],
     result: &mut [u64],

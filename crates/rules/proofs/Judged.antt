@@ -10,7 +10,7 @@ use Rattle.rules.specs.Whole.{fold, run}
 use Rattle.rules.specs.Limits.{Limits}
 use Rattle.rules.specs.Sections.{cut}
 use Rattle.rules.specs.Names.{namesOf}
-use Rattle.rules.specs.Call.{Call, Entry, judgeMode, judgeRoom, needOf, modelFrom, brought, judgeAndFold, judgeCut, outcome, judged, foldJudged}
+use Rattle.rules.specs.Call.{Call, Entry, judgeMode, judgeRoom, needOf, modelFrom, brought, judgeAndFold, judgeCut, outcome, judged, foldJudged, JudgedFirst}
 use Rattle.rules.proofs.Call.{judged-as-given}
 
 -- a stage before and after
@@ -22,7 +22,7 @@ unless-bind : {A B : Type 0} (o : Option Refusal) (x : Out A) (f : A → Out B) 
 unless-bind none x f = refl
 unless-bind (some r) x f = refl
 
-pub outcome-is : (limits : Limits) (entry : Entry) (call : Call) → outcome limits entry call ≡ (judged limits call >>= foldJudged entry)
+pub outcome-is : JudgedFirst
 unfolding outcome judged judgeCut judgeAndFold run
 outcome-is limits entry call =
     push (judgeMode (call .mode)) _ _ (foldJudged entry) λ how.

@@ -20,7 +20,7 @@ use Rattle.rules.specs.Walk.{St, Mark, fresh, kept, replaced, setMark, s
 use Rattle.rules.specs.Fold.{stays}
 use Rattle.rules.specs.Visit.{Ways, visit1, settle, unary, takeInput, process, visitMarked, visit, visitTop}
 use Rattle.rules.specs.Whole.{waysOf, trivial, dropNext, judgeSequentials, visitAll, Folded, bads, lastQuestion, foldBads, fold}
-use Rattle.rules.specs.Call.{Call, judgeMode, judgeRoom, needOf, modelFrom, brought, Judged, judged}
+use Rattle.rules.specs.Call.{judgeMode, judgeRoom, needOf, modelFrom, brought, Judged, judged}
 use Rattle.rules.specs.Sections.{cut}
 use Rattle.rules.specs.Names.{namesOf}
 use Rattle.rules.specs.KeptState.{begun, ComesTo, unlessReplaced, testedNext, testedMarked, testedVisit, testedAll, StatesStay, KeptState, KeptStateOfCall}
@@ -33,6 +33,18 @@ use Rattle.rules.proofs.Demand.{run-done}
 use Rattle.rules.proofs.Call.{formed}
 use Rattle.rules.proofs.Along.{hasInit, Steps, Along, Goes, visit-along, all-along, fold-along}
 
+-- any refusal
+abbrev Any : ℕ → Type 0
+Any n = Unit
+
+-- what a visit of k leaves: k stays, and stands for itself
+abbrev Itself : ℕ → St × ℕ → Type 0
+Itself k p = (p .0 .mark k ≡ kept) × (p .1 ≡ k)
+
+same-after : {A B : Type 0} (P : A → Type 0) (o : Out A) (f g : A → Out B) → If P o → ((x : A) → P x → f x ≡ g x) → (o >>= f) ≡ (o >>= g)
+same-after P (refused r) f g h e = refl
+same-after P (done x) f g h e = e x h
+
 module _ (t : List Node) where
   -- ---- a State with an init that is replaced was so before
   abbrev InitsStay : St → St → Type 0
@@ -44,9 +56,6 @@ module _ (t : List Node) where
       go : (b : Bool) → eqb i k ≡ b → cond b m (mark i) ≡ replaced r → mark i ≡ replaced r
       go true e q = absurd (n (eqb-true i k e) q)
       go false e q = q
-
-  abbrev Any : ℕ → Type 0
-  Any n = Unit
 
   steps : Steps t Any InitsStay
   steps =
@@ -97,9 +106,6 @@ module _ (t : List Node) where
 
   module _ (ways : Ways) where
     -- ---- a State with an init that is not replaced stays, and stands for itself
-    abbrev Itself : ℕ → St × ℕ → Type 0
-    Itself k p = (p .0 .mark k ≡ kept) × (p .1 ≡ k)
-
     staying : (vis : St → ℕ → Out (St × ℕ)) (σ : St) (k : ℕ) (nd : Node) → If (Itself k) (unary t ways vis σ k nd (λ x. stays))
     unfolding unary settle
     staying vis σ k nd = if-after (Itself k) (visit1 vis σ k nd) _ (λ p. (put-same (p .0 .mark) k kept, refl))
@@ -184,10 +190,6 @@ module _ (t : List Node) where
           go kept = refl
           go (replaced r) = refl
 
-    same-after : {A B : Type 0} (P : A → Type 0) (o : Out A) (f g : A → Out B) → If P o → ((x : A) → P x → f x ≡ g x) → (o >>= f) ≡ (o >>= g)
-    same-after P (refused r) f g h e = refl
-    same-after P (done x) f g h e = e x h
-
 -- ---- the whole
 module _ (m : Model) (how : Mode) (legal : AllLegal (m .table)) (six : All (Sequential (m .table)) (m .sequentials)) (seven : Once (m .table) (m .sequentials)) where
   abbrev t : List Node
@@ -206,32 +208,32 @@ module _ (m : Model) (how : Mode) (legal : AllLegal (m .table)) (six : All (Sequ
       (all-map (Sequential t) (Fresh t (start t (m .inputs) (m .replies))) (λ s q. (q, refl)) (m .sequentials) six)
 
   further : (σ : St) (f k : ℕ) → Reached σ → If (λ p. Reached (p .0)) (visit t ways f σ k)
-  further σ f k x = go (visit t ways f σ k) (visit-along t (Any t) (InitsStay t) ways (steps t) f σ k)
+  further σ f k x = go (visit t ways f σ k) (visit-along t Any (InitsStay t) ways (steps t) f σ k)
     where
-      go : (o : Out (St × ℕ)) → Goes t (Any t) (InitsStay t) σ o → If (λ p. Reached (p .0)) o
+      go : (o : Out (St × ℕ)) → Goes t Any (InitsStay t) σ o → If (λ p. Reached (p .0)) o
       go (refused r) h = tt
       go (done p) h = λ i q r z. x i q r (h i q r z)
 
   -- the state of a kept Next, visited by it
-  itself : (σ : St) (k : ℕ) → Reached σ → Fresh t (begun m .0) k → If (Itself t ways (nodeAt t k .a)) (visit t ways k σ (nodeAt t k .a))
+  itself : (σ : St) (k : ℕ) → Reached σ → Fresh t (begun m .0) k → If (Itself (nodeAt t k .a)) (visit t ways k σ (nodeAt t k .a))
   itself σ k x h = go k refl
     where
-      go : (f : ℕ) → k ≡ f → If (Itself t ways (nodeAt t k .a)) (visit t ways f σ (nodeAt t k .a))
+      go : (f : ℕ) → k ≡ f → If (Itself (nodeAt t k .a)) (visit t ways f σ (nodeAt t k .a))
       go zero e = let z : ⊥ = omega (arith, legal-as t k Next (nodeAt t k) (h .0 .next) (legal k (h .0 .inside)) .before .0, e) in absurd z
       go (suc f) e = stands t ways f σ (nodeAt t k .a) (state-ok t k legal (h .0) .state) (h .0 .init) (not-replaced t legal (begun m .0) σ x k h)
 
-  visited : (k : ℕ) (σ : St) (p : St × ℕ) → ComesTo m how k σ → visit t ways k σ (nodeAt t k .a) ≡ done p → Itself t ways (nodeAt t k .a) p
+  visited : (k : ℕ) (σ : St) (p : St × ℕ) → ComesTo m how k σ → visit t ways k σ (nodeAt t k .a) ≡ done p → Itself (nodeAt t k .a) p
   visited k σ p c e =
-      let x : Reached σ = subst (Along t (Any t) (InitsStay t) (λ σ. σ) (begun m .0)) (c .walked) (all-along t (Any t) (InitsStay t) ways (steps t) (begun m .0) (c .before)) in
-      let h = all-right (Fresh t (begun m .0)) (c .before) (k ∷ c .after) (subst (All (Fresh t (begun m .0))) (c .kept) kept!) .0 in
-      subst (If (Itself t ways (nodeAt t k .a))) e (itself σ k x h)
+      let x : Reached σ = subst (Along t Any (InitsStay t) (λ σ. σ) (begun m .0)) (c .walked) (all-along t Any (InitsStay t) ways (steps t) (begun m .0) (c .before)) in
+      let h = all-right (Fresh t (begun m .0)) (c .before) (k ∷ c .after) (subst (All (Fresh t (begun m .0))) (c .listed) kept!) .0 in
+      subst (If (Itself (nodeAt t k .a))) e (itself σ k x h)
 
   all-tested : (σ : St) (ks : List ℕ) → Reached σ → All (Fresh t (begun m .0)) ks → testedAll t ways σ ks ≡ visitAll t ways σ ks
   unfolding testedAll visitAll
   all-tested σ [] x h = refl
   all-tested σ (k ∷ ks) x h =
       ap (λ (o : Out (St × ℕ)). o >>= λ p. testedAll t ways (p .0) ks) (tested-same t ways legal σ k (h .0 .0) (itself σ k x (h .0)))
-      ∙ same-after t ways (λ p. Reached (p .0)) (visitTop t ways σ k) _ _ (further σ (suc k) k x) (λ p y. all-tested (p .0) ks y (h .1))
+      ∙ same-after (λ p. Reached (p .0)) (visitTop t ways σ k) _ _ (further σ (suc k) k x) (λ p y. all-tested (p .0) ks y (h .1))
 
   -- ---- the end
   abbrev Lists : List ℕ → Folded → Type 0
@@ -246,7 +248,7 @@ module _ (m : Model) (how : Mode) (legal : AllLegal (m .table)) (six : All (Sequ
   ended : (f : Folded) → fold m how ≡ done f → All (λ k. (r : ℕ) → f .state .mark (nodeAt t k .a) ≢ replaced r) (f .sequentials)
   unfolding fold
   ended f e =
-      let x : Reached (f .state) = subst (Along t (Any t) (InitsStay t) (λ (f : Folded). f .state) (begun m .0)) e (fold-along m how (Any t) (InitsStay t) (steps t)) in
+      let x : Reached (f .state) = subst (Along t Any (InitsStay t) (λ (f : Folded). f .state) (begun m .0)) e (fold-along m how Any (InitsStay t) (steps t)) in
       let q : Lists (begun m .1) f =
       subst (If (Lists (begun m .1))) e (if-after (Lists (begun m .1)) (visitAll t ways (begun m .0) (begun m .1)) _ λ σ. listed (how .oneQuery) σ (begun m .1)) in
       subst (All (λ k. (r : ℕ) → f .state .mark (nodeAt t k .a) ≢ replaced r)) (sym q)

@@ -1,7 +1,7 @@
 -- Every refusal's number is one of Numbered's list: of the stages before the walk here, of the walk by Along; so number 0 is acceptance.
 -- Assumes nothing.
 use Prim.Native.Nat.{ℕ, zero, suc, _*_, _<_}
-use mathlib.Core.Path.{_≡_, refl, subst}
+use mathlib.Core.Path.{_≡_, refl, sym, ap, _∙_, subst}
 use mathlib.Core.Bool.{Bool, true, false, not, _&&_}
 use mathlib.Core.Option.{Option, none, some}
 use mathlib.Core.List.{List, [], _∷_}
@@ -20,7 +20,7 @@ use Rattle.rules.specs.Sections.{Sections, cutSection, cutSix, noneLeft,
 use Rattle.rules.specs.Names.{cutNames, countedNames, namesOf}
 use Rattle.rules.specs.Call.{Entry, impl, Call, Accepted, judgeMode, needOf, judgeRoom, modelFrom, brought, judgeAndFold, judgeCut, outcome, answerOf}
 use Rattle.rules.specs.Text.{mostNumbers, programRoom, tokens, numberOf, judgeToken, numbersFrom, withMode, numbers, allNameBytes, namesInNumbers, afterNumbers, textOutcome}
-use Rattle.rules.specs.Numbered.{IsReason, Numbered, walkReasons, WalkNumbers, RefusalNumbers}
+use Rattle.rules.specs.Numbered.{reasons, IsReason, NineWithdrawn, Numbered, walkReasons, WalkNumbers, RefusalNumbers}
 use Rattle.rules.proofs.Base.{no}
 use Rattle.rules.proofs.Along.{Steps, Along, fold-along}
 
@@ -221,6 +221,10 @@ refusal-numbers = ((λ limits entry call r e. subst Numbered e (outcome-numbered
 pub reason-positive : (n : ℕ) → IsReason n → 0 < n
 reason-positive zero h = no h
 reason-positive (suc n) h = omega arith
+
+pub nine-withdrawn : NineWithdrawn
+unfolding NineWithdrawn
+nine-withdrawn n h e = no (ap (λ m. member m reasons) (sym e) ∙ h)
 
 pub accepted-answer : (limits : Limits) (entry : Entry) (call : Call) → answerOf (outcome limits entry call) .number ≡ 0 → (a : Accepted) × (outcome limits entry call ≡ done a)
 accepted-answer limits entry call = go (outcome limits entry call) (outcome-numbered limits entry call)

@@ -15,7 +15,7 @@ use borrow.Author.Tests.{eqb-true, eqb-false, eq-eqb, not-true}
 use Rattle.btor.specs.Operators.{compute, complement, bit, less}
 use Rattle.btor.specs.Sorts.{width, ones}
 use Rattle.rules.specs.Lists.{All}
-use Rattle.rules.specs.Refusal.{Out, refused, done, _>>=_}
+use Rattle.rules.specs.Refusal.{Out, refused, done}
 use Rattle.rules.specs.Table.{Kind, Const, Read, Write, Word, Ult, Ext, Ite, Eq, And, Or, Not, State, Next, Input, Bad, Node, with, nodeAt, fits}
 use Rattle.rules.specs.Legal.{Legal, AllLegal}
 use Rattle.rules.specs.Value.{Value, number, num, mem, written, meaning, worth, Fits}

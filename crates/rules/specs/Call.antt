@@ -101,11 +101,15 @@ judged limits call = do
   _ ← judgeRoom (needOf s) (call .resultRoom) (call .scratchRoom)
   unlessRefused (check (length names) (s .rows) (modelFrom names s)) (done (record { how = how; sections = s; names = names }))
 
--- the walk of a judged call: outcome is this after judged (proofs/Judged)
+-- the walk of a judged call
 abbrev pub foldJudged : Entry → Judged → Out Accepted
 foldJudged entry j =
     let m : Model = modelFrom (j .names) (brought entry (j .sections)) in
     fold m (j .how) >>= λ f. done (record { how = j .how; model = m; folded = f })
+
+-- a call is judged, in every mode and by every entry point, and then walked
+abbrev pub JudgedFirst : Type 0
+JudgedFirst = (limits : Limits) (entry : Entry) (call : Call) → outcome limits entry call ≡ (judged limits call >>= foldJudged entry)
 
 -- ---- what comes back
 -- "nine sections in result, each after its count"

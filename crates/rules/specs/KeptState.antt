@@ -1,8 +1,9 @@
 -- A kept Next's state is never replaced, so the walk does not look whether it is, and 9, the refusal of that, is withdrawn (docs/FORMAT.md, "Folding", "Refusals").
---     ComesTo, StatesStay      the walk of a model comes to a kept Next; its state then stands for itself, and a test of it would change nothing
---     KeptState                of every model whose table and sequentials pass
+--     ComesTo                  the walk of a model comes to a kept Next
+--     Visited, Tested, Others, Ended    its state then stands for itself, a test of it would change nothing, and it has no replacement at the end
+--     KeptState                all that of every model whose table and sequentials pass
 --     KeptStateOfCall          of every call that comes to the walk, by any entry point and in any mode
---     TableNeeded, SixNeeded, SevenNeeded    without one of the premises a kept Next's state can be replaced; TestMeant   and the test would refuse it
+--     TableNeeded, SixNeeded, SevenNeeded    without one of the premises all of it fails, each of a model; there the test would refuse
 --     KeptWorked               a call with a kept Next: below its state an input is taken and a question put, and its init is rewritten
 -- Assumes nothing.
 use Prim.Native.Nat.{ℕ, zero, suc, _<_}
@@ -12,7 +13,7 @@ use mathlib.Core.Bool.{true, false}
 use mathlib.Core.List.{List, [], _∷_, _++_}
 use lib.ListN.{length}
 use Rattle.rules.specs.Lists.{All}
-use Rattle.rules.specs.Refusal.{Out, done, refuse, _>>=_}
+use Rattle.rules.specs.Refusal.{Out, refused, done, refuse, _>>=_}
 use Rattle.rules.specs.Table.{Next, Row, Node, nodeAt, is, with}
 use Rattle.rules.specs.Model.{Model, Mode, modelOf}
 use Rattle.rules.specs.Legal.{AllLegal, Sequential, Once}
@@ -34,7 +35,7 @@ begun m = judgeSequentials (m .table) (start (m .table) (m .inputs) (m .replies)
 pub record ComesTo (m : Model) (how : Mode) (k : ℕ) (σ : St) : Type 0 where
   pub before : List ℕ
   pub after : List ℕ
-  pub kept : begun m .1 ≡ before ++ (k ∷ after)
+  pub listed : begun m .1 ≡ before ++ (k ∷ after)
   pub walked : visitAll (m .table) (waysOf m how) (begun m .0) before ≡ done σ
 
 -- ---- visits with the test that was made: 9, at the Next, where its state is replaced
@@ -67,14 +68,29 @@ module _ (t : List Node) (ways : Ways) where
 
 -- ---- the theorem
 module _ (m : Model) (how : Mode) where
-  -- when a kept Next visits its state, that stays and stands for itself; with the test the kept Nexts are visited alike, and so are all nodes but Nexts;
+  -- when a kept Next visits its state, that stays and stands for itself
+  abbrev pub Visited : Type 0
+  Visited =
+      (k : ℕ) (σ : St) (p : St × ℕ) → ComesTo m how k σ → visit (m .table) (waysOf m how) k σ (nodeAt (m .table) k .a) ≡ done p
+      → (p .0 .mark (nodeAt (m .table) k .a) ≡ kept) × (p .1 ≡ nodeAt (m .table) k .a)
+
+  -- with the test the kept Nexts are visited alike
+  abbrev pub Tested : Type 0
+  Tested = testedAll (m .table) (waysOf m how) (begun m .0) (begun m .1) ≡ visitAll (m .table) (waysOf m how) (begun m .0) (begun m .1)
+
+  -- and so is every other node, from any state
+  abbrev pub Others : Type 0
+  Others = (f k : ℕ) (σ : St) → k < length (m .table) → is Next (nodeAt (m .table) k) ≡ false → testedVisit (m .table) (waysOf m how) f σ k ≡ visit (m .table) (waysOf m how) f σ k
+
   -- at the end no kept Next's state is replaced
+  abbrev pub Ended : Type 0
+  Ended = (f : Folded) → fold m how ≡ done f → All (λ k. (r : ℕ) → f .state .mark (nodeAt (m .table) k .a) ≢ replaced r) (f .sequentials)
+
   pub record StatesStay : Type 0 where
-    pub visited : (k : ℕ) (σ : St) (p : St × ℕ) → ComesTo m how k σ → visit (m .table) (waysOf m how) k σ (nodeAt (m .table) k .a) ≡ done p
-        → (p .0 .mark (nodeAt (m .table) k .a) ≡ kept) × (p .1 ≡ nodeAt (m .table) k .a)
-    pub tested : testedAll (m .table) (waysOf m how) (begun m .0) (begun m .1) ≡ visitAll (m .table) (waysOf m how) (begun m .0) (begun m .1)
-    pub others : (f k : ℕ) (σ : St) → k < length (m .table) → is Next (nodeAt (m .table) k) ≡ false → testedVisit (m .table) (waysOf m how) f σ k ≡ visit (m .table) (waysOf m how) f σ k
-    pub ended : (f : Folded) → fold m how ≡ done f → All (λ k. (r : ℕ) → f .state .mark (nodeAt (m .table) k .a) ≢ replaced r) (f .sequentials)
+    pub visited : Visited
+    pub tested : Tested
+    pub others : Others
+    pub ended : Ended
 
 -- by 5 a Next is of a State, by 6 that has an init, by 7 no other listed Next is of it
 unfoldable pub KeptState : Type 0
@@ -86,33 +102,50 @@ KeptStateOfCall =
     (limits : Limits) (entry : Entry) (call : Call) (j : Judged) → judged limits call ≡ done j
     → StatesStay (modelFrom (j .names) (brought entry (j .sections))) (j .how)
 
--- ---- each premise is needed
+-- ---- each premise is needed: a model that meets the two others, and of which nothing holds
+abbrev pub modelAt : List Row → List ℕ → List ℕ → Model
+modelAt rs ss ins = modelOf rs (λ k. false) ss [] [] ins []
+
+pub record Fails (m : Model) (refusal : Out St) : Type 0 where
+  pub visited : Visited m mode0 → ⊥
+  pub tested : Tested m mode0 → ⊥
+  pub ended : Ended m mode0 → ⊥
+  pub refused : testedAll (m .table) (waysOf m mode0) (begun m .0) (begun m .1) ≡ refusal
+
+-- the Next 3 of a sum, whose second word is 1 as that of a State with an init is; 4 has that Next as its operand
+abbrev pub summed : Model
+summed = modelAt (row 1 2 3 0 0 0 ∷ row 1 2 4 0 0 0 ∷ row 4 2 0 1 0 0 ∷ row 20 2 2 1 0 0 ∷ row 18 2 3 0 0 0 ∷ []) (3 ∷ []) []
+
 unfoldable pub TableNeeded : Type 0
-TableNeeded = ((m : Model) (how : Mode) → All (Sequential (m .table)) (m .sequentials) → Once (m .table) (m .sequentials) → StatesStay m how) → ⊥
+TableNeeded = All (Sequential (summed .table)) (summed .sequentials) × Once (summed .table) (summed .sequentials) × Fails summed (refuse 9 1 3) × (Others summed mode0 → ⊥)
+
+-- the Next 2 of a State without an init, which takes the input 7
+abbrev pub takingRows : List Row
+takingRows = row 19 2 0 0 0 0 ∷ row 1 2 5 0 0 0 ∷ row 20 2 0 1 0 0 ∷ []
+
+abbrev pub taking : Model
+taking = modelAt takingRows (2 ∷ []) (7 ∷ [])
 
 unfoldable pub SixNeeded : Type 0
-SixNeeded = ((m : Model) (how : Mode) → AllLegal (m .table) → Once (m .table) (m .sequentials) → StatesStay m how) → ⊥
+SixNeeded = AllLegal (taking .table) × Once (taking .table) (taking .sequentials) × Fails taking (refuse 9 1 2)
 
-unfoldable pub SevenNeeded : Type 0
-SevenNeeded = ((m : Model) (how : Mode) → AllLegal (m .table) → All (Sequential (m .table)) (m .sequentials) → StatesStay m how) → ⊥
-
--- two Nexts of the State 1, which 7 would refuse: 3, the State itself, is dropped, and 4 is kept
+-- two Nexts of the State 1: 3, the State itself, is dropped, and 4 is kept
 abbrev pub twiceRows : List Row
 twiceRows = row 1 2 3 0 0 0 ∷ row 19 2 0 1 0 0 ∷ row 1 2 5 0 0 0 ∷ row 20 2 1 1 0 0 ∷ row 20 2 1 2 0 0 ∷ []
 
 abbrev pub twice : Model
-twice = modelOf twiceRows (λ k. false) (3 ∷ 4 ∷ []) [] [] [] []
+twice = modelAt twiceRows (3 ∷ 4 ∷ []) []
 
-unfoldable pub TestMeant : Type 0
-TestMeant = testedAll (twice .table) (waysOf twice mode0) (begun twice .0) (begun twice .1) ≡ refuse 9 1 4
+unfoldable pub SevenNeeded : Type 0
+SevenNeeded = AllLegal (twice .table) × All (Sequential (twice .table)) (twice .sequentials) × Fails twice (refuse 9 1 4)
 
--- ---- 0 an Input, 1 a State that takes the input 7, 2 whether 0 is below 1, 3 a State whose init is 2, 4 a one, 5 the Next of 3, which is 4. Under minimise,
+-- ---- 0 an Input, 1 a State that takes the input 9, 2 whether 0 is below 1, 3 a State whose init is 2, 4 a one, 5 the Next of 3, which is 4. Under minimise,
 -- with the reply that 2 is always true. By the visit of 3 the input is taken and the question put, and 7, the shared true, is its init.
 abbrev pub keptRows : List Row
 keptRows = row 21 2 0 0 0 1 ∷ row 19 2 0 0 0 0 ∷ row 12 1 0 1 0 0 ∷ row 19 1 2 1 0 0 ∷ row 1 1 1 0 0 0 ∷ row 20 1 3 4 0 0 ∷ []
 
 abbrev pub keptCall : Call
-keptCall = callOf 1 (record { rows = keptRows; sequentials = 5 ∷ []; initial = []; later = []; inputs = 7 ∷ []; replies = 1 ∷ [] })
+keptCall = callOf 1 (record { rows = keptRows; sequentials = 5 ∷ []; initial = []; later = []; inputs = 9 ∷ []; replies = 1 ∷ [] })
 
 abbrev pub keptHeld : List Held
 keptHeld = record { state = 1; by = 8 } ∷ []
@@ -125,7 +158,14 @@ pub record KeptNext (a : Accepted) : Type 0 where
   pub asked : a .folded .state .asked ≡ question alwaysTrue 2 0 [] 1 ∷ []
   pub init : a .folded .state .rows 3 .a ≡ 7
   pub state : a .folded .state .rows 5 .a ≡ 3
-  pub stays : a .folded .state .mark 3 ≡ kept
+  pub mark : a .folded .state .mark 3 ≡ kept
+
+-- what the theorem says of it
+abbrev pub OfJudged : (Judged → Type 0) → Out Judged → Type 0
+OfJudged P (refused r) = ⊥
+OfJudged P (done j) = P j
 
 unfoldable pub KeptWorked : Type 0
-KeptWorked = OfAccepted KeptNext (outcome house impl keptCall)
+KeptWorked =
+    OfAccepted KeptNext (outcome house impl keptCall)
+    × OfJudged (λ j. StatesStay (modelFrom (j .names) (brought impl (j .sections))) (j .how)) (judged house keptCall)

@@ -1,9 +1,10 @@
 -- The numbers of refusals: 0 is none of them, so an answer with number 0 is an acceptance; nor is 9 (docs/FORMAT.md, "Refusals").
---     reasons            the numbers, rising           Numbered   what is said of an outcome
+--     reasons            the numbers, rising; NineWithdrawn   9 is none of them     Numbered   what is said of an outcome
 --     RefusalNumbers     of a call's outcome and of a text's     WalkNumbers   of the walk alone
 -- Assumes nothing.
 use Prim.Native.Nat.{ℕ}
 use mathlib.Core.Path.{_≡_}
+use mathlib.Core.Logic.{_≢_}
 use mathlib.Core.Bool.{true}
 use mathlib.Core.List.{List, [], _∷_}
 use Rattle.rules.specs.Lists.{member}
@@ -20,6 +21,9 @@ reasons = 1 ∷ 2 ∷ 3 ∷ 4 ∷ 5 ∷ 6 ∷ 7 ∷ 8 ∷ 10 ∷ 11 ∷ 12 ∷ 1
 
 abbrev pub IsReason : ℕ → Type 0
 IsReason n = member n reasons ≡ true
+
+unfoldable pub NineWithdrawn : Type 0
+NineWithdrawn = (n : ℕ) → IsReason n → n ≢ 9
 
 -- an outcome whose refusal, if it is one, has such a number
 abbrev pub Numbered : {A : Type 0} → Out A → Type 0

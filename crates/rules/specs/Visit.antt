@@ -121,7 +121,7 @@ module _ (t : List Node) (ways : Ways) where
       (σ₂, z) ← vis σ₁ (nd .c)
       finish k (setRow σ₂ k (with nd x y z)) stays (askIte (ways .replyCount) (length t) (nd .sort) k x y z)
 
-    -- a Next "visits its state, then its next value": what stands for its state is that State itself (KeptState)
+    -- a Next "visits its state, then its next value": what stands for a kept Next's state is that State itself (KeptState)
     -- a State "with an init: stays, and its row has what stands for the init"
     unfoldable pub process : Kind → St → ℕ → Node → Out (St × ℕ)
     process Const σ k nd = settle k σ (foldConst (length t) (nd .sort) (nd .a))
