@@ -3,7 +3,7 @@
 --     Visited, Tested, Others, Ended    its state then stands for itself, a test of it would change nothing, and it has no replacement at the end
 --     KeptState                all that of every model whose table and sequentials pass
 --     KeptStateOfCall          of every call that comes to the walk, by any entry point and in any mode
---     TableNeeded, SixNeeded, SevenNeeded    without one of the premises all of it fails, each of a model; there the test would refuse
+--     TableNeeded, SixNeeded, SevenNeeded    each premise is needed: a model without it, in which a kept Next's state is replaced and the test refuses
 --     KeptWorked               a call with a kept Next: below its state an input is taken and a question put, and its init is rewritten
 -- Assumes nothing.
 use Prim.Native.Nat.{ℕ, zero, suc, _<_}
@@ -102,7 +102,7 @@ KeptStateOfCall =
     (limits : Limits) (entry : Entry) (call : Call) (j : Judged) → judged limits call ≡ done j
     → StatesStay (modelFrom (j .names) (brought entry (j .sections))) (j .how)
 
--- ---- each premise is needed: a model that meets the two others, and of which nothing holds
+-- ---- each premise is needed: a model that meets the two others, where what is said of kept Nexts fails and the test refuses
 abbrev pub modelAt : List Row → List ℕ → List ℕ → Model
 modelAt rs ss ins = modelOf rs (λ k. false) ss [] [] ins []
 
