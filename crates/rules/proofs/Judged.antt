@@ -7,10 +7,9 @@ use Rattle.rules.specs.Refusal.{Refusal, Out, refused, done, _>>=_, unle
 use Rattle.rules.specs.Model.{Model}
 use Rattle.rules.specs.Check.{check}
 use Rattle.rules.specs.Whole.{fold, run}
-use Rattle.rules.specs.Limits.{Limits}
 use Rattle.rules.specs.Sections.{cut}
 use Rattle.rules.specs.Names.{namesOf}
-use Rattle.rules.specs.Call.{Call, Entry, judgeMode, judgeRoom, needOf, modelFrom, brought, judgeAndFold, judgeCut, outcome, judged, foldJudged, JudgedFirst}
+use Rattle.rules.specs.Call.{judgeMode, judgeRoom, needOf, modelFrom, brought, judgeAndFold, judgeCut, outcome, judged, foldJudged, JudgedFirst}
 use Rattle.rules.proofs.Call.{judged-as-given}
 
 -- a stage before and after
