@@ -59,17 +59,17 @@ module _ (g dumps ins reps : List ℕ) (minimise : Bool) (legal : AllLegal (tabl
   begin = start (tableOf g) ins reps
 
   begin-fine : Fine (tableOf g) ways ins reps begin
-  begin-fine = record { shape = start-shape (tableOf g) legal (λ k. fresh) (λ k. refl); books = start-books (tableOf g) rust ins reps; marked = tt; fair = omega arith; gained = omega arith }
+  begin-fine = record { shape = start-shape (tableOf g) legal (λ k. fresh) (λ k. refl); books = start-books (tableOf g) rust ins reps; used = λ r l u. let o : ⊥ = omega arith in absurd o; marked = tt; fair = omega arith; gained = omega arith }
 
   pub begins-fine : (ss R S : List ℕ) → All (Sequential (tableOf g)) ss → view [] g ins reps R S untouched ≡ judgeSequentials (tableOf g) begin ss .0 → Fine (tableOf g) ways ins reps (view [] g ins reps R S untouched)
-  begins-fine ss R S h e = subst (λ (σ : St). Fine (tableOf g) ways ins reps σ) (sym e) (sequentials-walked (tableOf g) ways ins reps legal begin ss h .goes begin-fine .fine)
+  begins-fine ss R S h e = subst (λ (σ : St). Fine (tableOf g) ways ins reps σ) (sym e) (sequentials-walked (tableOf g) ways ins reps legal begin ss refl h .goes begin-fine .fine)
 
   pub begins : (ss R S : List ℕ) → All (Sequential (tableOf g)) ss → countOf g ≤ 4096 → 1 + 6 * countOf g ≤ length g → 22 * countOf g + 22 ≤ length R → 2 * countOf g + 12 * countOf g ≤ length S
       → view [] g ins reps R S untouched ≡ judgeSequentials (tableOf g) begin ss .0 → Laid g dumps ins reps minimise R S untouched
   unfolding view firsts
   begins ss R S h small whole room asks e =
       let n = table-length g in
-      let w : Walked (tableOf g) ways ins reps legal 0 begin (view [] g ins reps R S untouched) = subst (λ (σ : St). Walked (tableOf g) ways ins reps legal 0 begin σ) (sym e) (sequentials-walked (tableOf g) ways ins reps legal begin ss h .goes begin-fine) in
+      let w : Walked (tableOf g) ways ins reps legal 0 begin (view [] g ins reps R S untouched) = subst (λ (σ : St). Walked (tableOf g) ways ins reps legal 0 begin σ) (sym e) (sequentials-walked (tableOf g) ways ins reps legal begin ss refl h .goes begin-fine) in
       let few : 0 + unpaid (λ k. 1) (countOf g) (markOf (countOf g) S) ≤ 0 + unpaid (λ k. 1) (countOf g) (λ k. fresh) = subst (λ (c : ℕ). 0 + unpaid (λ k. 1) c (markOf (countOf g) S) ≤ 0 + unpaid (λ k. 1) c (λ k. fresh)) n (w .few) in
       let asked : 0 + unpaid (λ k. 3) (countOf g) (markOf (countOf g) S) ≤ 0 + unpaid (λ k. 3) (countOf g) (λ k. fresh) + 0 = subst (λ (c : ℕ). 0 + unpaid (λ k. 3) c (markOf (countOf g) S) ≤ 0 + unpaid (λ k. 3) c (λ k. fresh) + 0) n (w .asks) in
       let looked : 0 + unpaid (fee (tableOf g)) (countOf g) (markOf (countOf g) S) ≤ 0 + unpaid (fee (tableOf g)) (length (tableOf g)) (λ k. fresh) = subst (λ (c : ℕ). 0 + unpaid (fee (tableOf g)) c (markOf (countOf g) S) ≤ 0 + unpaid (fee (tableOf g)) (length (tableOf g)) (λ k. fresh)) n (w .looks) in

@@ -61,7 +61,7 @@ module _ (g dumps ins reps ss R S : List ℕ) (minimise : Bool) (at count : ℕ)
   pub entries-begun : All (λ k. k < countOf g) (entriesOf S at count)
   entries-begun =
       subst (λ (c : ℕ). All (λ k. k < c) (entriesOf S at count)) (table-length g)
-      (subst (All (λ k. k < length (tableOf g))) (ap (λ (r : St × List ℕ). r .1) e) (sequentials-walked (tableOf g) ways ins reps legal (start (tableOf g) ins reps) ss listed .kept))
+      (subst (All (λ k. k < length (tableOf g))) (ap (λ (r : St × List ℕ). r .1) e) (sequentials-walked (tableOf g) ways ins reps legal (start (tableOf g) ins reps) ss refl listed .kept))
 
   -- the visits spend no more questions than the nodes have
   pub spare-visited : (Q T : List ℕ) (w : Walk) (h : List Held) → visitAll (tableOf g) ways (view [] g ins reps R (take at S) untouched) (entriesOf S at count) ≡ done (view h g ins reps Q (take at T) w)

@@ -55,7 +55,7 @@ module _ (t : List Node) (ways : Ways) (reads : ways .reading ≡ rust) (vis : S
       → process t ways vis K σ k nd
       ≡ binary t ways vis σ k nd (λ x y cx cy. foldTwo K (length t) (nd .sort) x y cx cy) (bitAsked (ways .replyCount) (length t) k (asksBit K (nd .sort)))
   unfolding process foldTwo asksBit
-  process-two (Word op) e σ k nd = ap (λ how. binary t ways vis σ k nd (λ x y. foldWords (compute how op)) quiet) reads
+  process-two (Word op) e σ k nd = ap (λ how. binary t ways vis σ k nd (λ x y. foldWords (nd .sort) (compute how op)) quiet) reads
   process-two Ult e σ k nd = refl
   process-two Eq e σ k nd = refl
   process-two And e σ k nd = refl

@@ -108,6 +108,7 @@ same-node nd K s a b c n e₁ e₂ e₃ e₄ e₅ e₆ = cc
 pub record ReadBack (m : Model) (f : Folded) (Q : List ℕ) : Type 0 where
   pub nodes : countOf Q ≡ length (m .table)
   pub rows : (k : ℕ) → k < length (m .table) → nodeOf Q k ≡ f .state .rows k
+  pub sorts : (j : ℕ) → j < 2 + f .state .made → getD (constantsOn Q) (1 + 2 * j) 0 ≡ f .state .rows (length (m .table) + j) .sort
   pub constants : (j : ℕ) → j < 2 + f .state .made → getD (constantsOn Q) (2 + 2 * j) 0 ≡ f .state .rows (length (m .table) + j) .a
   pub replacements : (i : ℕ) → i < countOf (replacementsOn Q) → Pair (length (m .table)) (f .state .mark) (drop 1 (replacementsOn Q)) i
   pub initial : listIn (initialOn Q) ≡ f .initial
@@ -180,10 +181,11 @@ module _ (m : Model) (f : Folded) (rest : List ℕ) where
       (ap kindOf (row-word k 0 l (omega arith)) ∙ kind-of-code (σ .rows k .kind))
       (row-word k 1 l (omega arith)) (row-word k 2 l (omega arith)) (row-word k 3 l (omega arith)) (row-word k 4 l (omega arith)) (row-word k 5 l (omega arith))
 
-  constant-is : (j : ℕ) → j < 2 + σ .made → getD from-2 (2 + 2 * j) 0 ≡ σ .rows (n + j) .a
-  constant-is j l =
-      let e : 2 + 2 * j ≡ suc (j * 2 + 1) = omega arith in
-      ap (λ i. getD from-2 i 0) e ∙ word-in 2 (2 + σ .made) n (λ k. constWords (σ .rows k)) from-3 (λ i. refl) j 1 l (omega arith)
+  -- the sort and the number of a constant
+  constant-is : (j i : ℕ) → j < 2 + σ .made → i < 2 → getD from-2 (1 + i + 2 * j) 0 ≡ getD (constWords (σ .rows (n + j))) i 0
+  constant-is j i l h =
+      let e : 1 + i + 2 * j ≡ suc (j * 2 + i) = omega arith in
+      ap (λ i. getD from-2 i 0) e ∙ word-in 2 (2 + σ .made) n (λ k. constWords (σ .rows k)) from-3 (λ i. refl) j i l h
 
   pair-is : (i : ℕ) → i < pairCount n (σ .mark) → Pair n (σ .mark) (pairs n (σ .mark) ++ from-4) i
   pair-is i l = pair-on n n (σ .mark) (pairs n (σ .mark)) from-4 i (omega arith) (omega (arith, marks-size n (σ .mark))) (pair-at n (σ .mark) i l)
@@ -195,7 +197,8 @@ module _ (m : Model) (f : Folded) (rest : List ℕ) where
       subst (ReadBack m f) (sym result-on) (record {
         nodes = refl;
         rows = row-is;
-        constants = λ j l. ap (λ ws. getD ws (2 + 2 * j) 0) on-2 ∙ constant-is j l;
+        sorts = λ j l. ap (λ ws. getD ws (1 + 2 * j) 0) on-2 ∙ constant-is j 0 l (omega arith);
+        constants = λ j l. ap (λ ws. getD ws (2 + 2 * j) 0) on-2 ∙ constant-is j 1 l (omega arith);
         replacements = λ i l.
             subst (λ ws. Pair n (σ .mark) (drop 1 ws) i) (sym three)
             (pair-is i (subst (λ ws. i < countOf ws) three l));

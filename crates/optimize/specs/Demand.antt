@@ -2,6 +2,7 @@
 --     Contract          what the contracts in optimize.rt say of a call and of what it left
 --     after, listIn, worthIn     a result's words read back, section by section     Dropped    a bad state that a kept list lacks
 --     KeepsIn           what is concluded of the words        Demand3OfResult    the demand, with no premise but its own
+--     SortsIn           the sorts in the words, of every accepted call
 -- What is visited, replaced, asked or dropped follows from the rules on what a call is given, never from a result: the premises are of the rules' fold.
 -- Assumes nothing.
 use Prim.Native.Nat.{ℕ, _+_, _-_, _*_, _<_}
@@ -72,12 +73,23 @@ pub record KeepsIn (how : Reading) (m : Model) (Q : List ℕ) (α : ℕ → Valu
       → worthIn how (m .table) α Q (getD (replacementsOn Q) (2 + 2 * i) 0) ≡ value how (nodeAt (m .table)) α (getD (replacementsOn Q) (1 + 2 * i) 0)
   pub dropped : (b : ℕ) → Dropped m Q b → value how (nodeAt (m .table)) α (nodeAt (m .table) b .a) ≡ number 0
 
--- a call that answered `Done count` is one that the rules accept, the result holds the rules' words and zeros after them, and they keep the values
+-- ---- the sort of a number in the result: a node's, or "constants: sort, number"
+unfoldable pub sortIn : ℕ → List ℕ → ℕ → ℕ
+sortIn n Q r = cond (ltb r n) (nodeOf Q r .sort) (getD (constantsOn Q) (1 + 2 * (r - n)) 0)
+
+-- a row keeps its sort, and "every replacement, a node or a constant, has its node's own sort"
+pub record SortsIn (t : List Node) (Q : List ℕ) : Type 0 where
+  pub rows : (k : ℕ) → k < length t → nodeOf Q k .sort ≡ nodeAt t k .sort
+  pub replacements : (i : ℕ) → i < countOf (replacementsOn Q)
+      → sortIn (length t) Q (getD (replacementsOn Q) (2 + 2 * i) 0) ≡ nodeAt t (getD (replacementsOn Q) (1 + 2 * i) 0) .sort
+
+-- a call that answered `Done count` is one that the rules accept, the result holds the rules' words and zeros after them, and they keep sorts and values
 pub record Kept (entry : Entry) (call : Call) (count : ℕ) (Q : List ℕ) : Type 0 where
   pub accepted : Accepted
   pub follows : outcome house entry call ≡ done accepted
   pub counted : count ≡ length (wordsOf accepted)
   pub words : Q ≡ wordsOf accepted ++ replicate (call .resultRoom - length (wordsOf accepted)) 0
+  pub sorts : SortsIn (accepted .model .table) Q
   pub keeps : Premises accepted → (α : ℕ → Value) → FaithfulTo accepted α
       → KeepsIn (accepted .how .reading) (accepted .model) Q α
 

@@ -10,7 +10,6 @@ use mathlib.Core.Option.{Option, none, some}
 use mathlib.Core.List.{List}
 use lib.Dec.{eqb}
 use Rattle.btor.specs.Operators.{Op, rust, compute, less}
-use Rattle.btor.specs.Sorts.{ones}
 use Rattle.rules.specs.Refusal.{Out}
 use Rattle.rules.specs.Table.{Kind, Const, Read, Write, Word, Ult, Ext, Ite, Eq, And, Or, Not, State, Next, Input, Bad, is}
 use Rattle.rules.specs.Walk.{St}
@@ -36,11 +35,11 @@ opIs Operator.Srl = Op.Srl
 
 -- a node of two operands x and y, cx and cy their numbers where they are constants, among n nodes
 unfoldable pub foldTwo : Kind → ℕ → ℕ → ℕ → ℕ → Option ℕ → Option ℕ → Fold
-foldTwo (Word op) n sort x y cx cy = foldWords (compute rust op) cx cy
+foldTwo (Word op) n sort x y cx cy = foldWords sort (compute rust op) cx cy
 foldTwo Ult n sort x y cx cy = foldTest n less cx cy
 foldTwo Eq n sort x y cx cy = foldEq n x y cx cy
-foldTwo And n sort x y cx cy = foldAnd (ones sort) x y cx cy
-foldTwo Or n sort x y cx cy = foldOr (ones sort) x y cx cy
+foldTwo And n sort x y cx cy = foldAnd sort x y cx cy
+foldTwo Or n sort x y cx cy = foldOr sort x y cx cy
 foldTwo Const n sort x y cx cy = stays
 foldTwo Read n sort x y cx cy = stays
 foldTwo Write n sort x y cx cy = stays
@@ -54,7 +53,7 @@ foldTwo Bad n sort x y cx cy = stays
 
 -- a node of one operand, cx its number where it is a constant
 unfoldable pub foldOne : Kind → ℕ → ℕ → Option ℕ → Fold
-foldOne Ext n sort cx = foldExt cx
+foldOne Ext n sort cx = foldExt sort cx
 foldOne Not n sort cx = foldNot n sort cx
 foldOne Const n sort cx = stays
 foldOne Read n sort cx = stays

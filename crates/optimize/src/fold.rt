@@ -120,9 +120,9 @@ pub(crate) fn fold_const(n: usize, sort: u64, value: u64) -> Folded
     Folded::Stays
 }
 
-// Two constant words make a new constant.
-fn fold_any_binary(left: Constant, right: Constant, f: Operator) -> Folded
-    ensures { λ r. ⌜ foldIs r ≡ foldWords (compute Reading.rust (opIs f)) (constantIs left) (constantIs right) ⌝ }
+// Two constant words make a new constant, of the node's own sort.
+fn fold_any_binary(sort: u64, left: Constant, right: Constant, f: Operator) -> Folded
+    ensures { λ r. ⌜ foldIs r ≡ foldWords sort (compute Reading.rust (opIs f)) (constantIs left) (constantIs right) ⌝ }
 {
     let Constant::Imm(left_imm) = left else {
         return Folded::Stays;
@@ -130,55 +130,55 @@ fn fold_any_binary(left: Constant, right: Constant, f: Operator) -> Folded
     let Constant::Imm(right_imm) = right else {
         return Folded::Stays;
     };
-    Folded::Make(NodeType::WORD, f.apply(left_imm, right_imm))
+    Folded::Make(sort, f.apply(left_imm, right_imm))
 }
 
-fn fold_add(left: Constant, right: Constant) -> Folded
-    ensures { λ r. ⌜ foldIs r ≡ foldWords (compute Reading.rust Op.Add) (constantIs left) (constantIs right) ⌝ }
+fn fold_add(sort: u64, left: Constant, right: Constant) -> Folded
+    ensures { λ r. ⌜ foldIs r ≡ foldWords sort (compute Reading.rust Op.Add) (constantIs left) (constantIs right) ⌝ }
 {
-    fold_any_binary(left, right, Operator::Add)
+    fold_any_binary(sort, left, right, Operator::Add)
 }
 
-fn fold_sub(left: Constant, right: Constant) -> Folded
-    ensures { λ r. ⌜ foldIs r ≡ foldWords (compute Reading.rust Op.Sub) (constantIs left) (constantIs right) ⌝ }
+fn fold_sub(sort: u64, left: Constant, right: Constant) -> Folded
+    ensures { λ r. ⌜ foldIs r ≡ foldWords sort (compute Reading.rust Op.Sub) (constantIs left) (constantIs right) ⌝ }
 {
-    fold_any_binary(left, right, Operator::Sub)
+    fold_any_binary(sort, left, right, Operator::Sub)
 }
 
-fn fold_mul(left: Constant, right: Constant) -> Folded
-    ensures { λ r. ⌜ foldIs r ≡ foldWords (compute Reading.rust Op.Mul) (constantIs left) (constantIs right) ⌝ }
+fn fold_mul(sort: u64, left: Constant, right: Constant) -> Folded
+    ensures { λ r. ⌜ foldIs r ≡ foldWords sort (compute Reading.rust Op.Mul) (constantIs left) (constantIs right) ⌝ }
 {
-    fold_any_binary(left, right, Operator::Mul)
+    fold_any_binary(sort, left, right, Operator::Mul)
 }
 
-fn fold_divu(left: Constant, right: Constant) -> Folded
-    ensures { λ r. ⌜ foldIs r ≡ foldWords (compute Reading.rust Op.Divu) (constantIs left) (constantIs right) ⌝ }
+fn fold_divu(sort: u64, left: Constant, right: Constant) -> Folded
+    ensures { λ r. ⌜ foldIs r ≡ foldWords sort (compute Reading.rust Op.Divu) (constantIs left) (constantIs right) ⌝ }
 {
-    fold_any_binary(left, right, Operator::Divu)
+    fold_any_binary(sort, left, right, Operator::Divu)
 }
 
-fn fold_div(left: Constant, right: Constant) -> Folded
-    ensures { λ r. ⌜ foldIs r ≡ foldWords (compute Reading.rust Op.Div) (constantIs left) (constantIs right) ⌝ }
+fn fold_div(sort: u64, left: Constant, right: Constant) -> Folded
+    ensures { λ r. ⌜ foldIs r ≡ foldWords sort (compute Reading.rust Op.Div) (constantIs left) (constantIs right) ⌝ }
 {
-    fold_any_binary(left, right, Operator::Div)
+    fold_any_binary(sort, left, right, Operator::Div)
 }
 
-fn fold_rem(left: Constant, right: Constant) -> Folded
-    ensures { λ r. ⌜ foldIs r ≡ foldWords (compute Reading.rust Op.Rem) (constantIs left) (constantIs right) ⌝ }
+fn fold_rem(sort: u64, left: Constant, right: Constant) -> Folded
+    ensures { λ r. ⌜ foldIs r ≡ foldWords sort (compute Reading.rust Op.Rem) (constantIs left) (constantIs right) ⌝ }
 {
-    fold_any_binary(left, right, Operator::Rem)
+    fold_any_binary(sort, left, right, Operator::Rem)
 }
 
-fn fold_sll(left: Constant, right: Constant) -> Folded
-    ensures { λ r. ⌜ foldIs r ≡ foldWords (compute Reading.rust Op.Sll) (constantIs left) (constantIs right) ⌝ }
+fn fold_sll(sort: u64, left: Constant, right: Constant) -> Folded
+    ensures { λ r. ⌜ foldIs r ≡ foldWords sort (compute Reading.rust Op.Sll) (constantIs left) (constantIs right) ⌝ }
 {
-    fold_any_binary(left, right, Operator::Sll)
+    fold_any_binary(sort, left, right, Operator::Sll)
 }
 
-fn fold_srl(left: Constant, right: Constant) -> Folded
-    ensures { λ r. ⌜ foldIs r ≡ foldWords (compute Reading.rust Op.Srl) (constantIs left) (constantIs right) ⌝ }
+fn fold_srl(sort: u64, left: Constant, right: Constant) -> Folded
+    ensures { λ r. ⌜ foldIs r ≡ foldWords sort (compute Reading.rust Op.Srl) (constantIs left) (constantIs right) ⌝ }
 {
-    fold_any_binary(left, right, Operator::Srl)
+    fold_any_binary(sort, left, right, Operator::Srl)
 }
 
 fn fold_ult(n: usize, left: Constant, right: Constant) -> Folded
@@ -211,9 +211,9 @@ fn fold_eq(n: usize, x: usize, y: usize, left: Constant, right: Constant) -> Fol
     shared_constant(n, operators::eq(left_imm, right_imm))
 }
 
-// Zeros win, then ones yield the other side; what two other constants make is a word, whatever the sort.
+// Zeros win, then ones yield the other side; two other constants make one of the And's own sort, also where that is a byte's.
 fn fold_and(sort: u64, x: usize, y: usize, left: Constant, right: Constant) -> Folded
-    ensures { λ r. ⌜ foldIs r ≡ foldAnd (ones sort) x y (constantIs left) (constantIs right) ⌝ }
+    ensures { λ r. ⌜ foldIs r ≡ foldAnd sort x y (constantIs left) (constantIs right) ⌝ }
 {
     let left_zeroes = is_const_zeroes(left);
     let right_zeroes = is_const_zeroes(right);
@@ -237,12 +237,12 @@ fn fold_and(sort: u64, x: usize, y: usize, left: Constant, right: Constant) -> F
     let Constant::Imm(right_imm) = right else {
         return Folded::Stays;
     };
-    Folded::Make(NodeType::WORD, operators::and(left_imm, right_imm))
+    Folded::Make(sort, operators::and(left_imm, right_imm))
 }
 
-// Zeros yield the other side, then ones win; what two other constants make is a word, whatever the sort.
+// Zeros yield the other side, then ones win; two other constants make one of the Or's own sort, also where that is a byte's.
 fn fold_or(sort: u64, x: usize, y: usize, left: Constant, right: Constant) -> Folded
-    ensures { λ r. ⌜ foldIs r ≡ foldOr (ones sort) x y (constantIs left) (constantIs right) ⌝ }
+    ensures { λ r. ⌜ foldIs r ≡ foldOr sort x y (constantIs left) (constantIs right) ⌝ }
 {
     let left_zeroes = is_const_zeroes(left);
     let right_zeroes = is_const_zeroes(right);
@@ -266,7 +266,7 @@ fn fold_or(sort: u64, x: usize, y: usize, left: Constant, right: Constant) -> Fo
     let Constant::Imm(right_imm) = right else {
         return Folded::Stays;
     };
-    Folded::Make(NodeType::WORD, operators::or(left_imm, right_imm))
+    Folded::Make(sort, operators::or(left_imm, right_imm))
 }
 
 // A bit becomes the shared one; another constant keeps the Not's sort.
@@ -288,13 +288,13 @@ fn fold_not(n: usize, sort: u64, value: Constant) -> Folded
     Folded::Make(sort, complement_in(sort, imm))
 }
 
-fn fold_ext(value: Constant) -> Folded
-    ensures { λ r. ⌜ foldIs r ≡ foldExt (constantIs value) ⌝ }
+fn fold_ext(sort: u64, value: Constant) -> Folded
+    ensures { λ r. ⌜ foldIs r ≡ foldExt sort (constantIs value) ⌝ }
 {
     let Constant::Imm(imm) = value else {
         return Folded::Stays;
     };
-    Folded::Make(NodeType::WORD, operators::ext(imm))
+    Folded::Make(sort, operators::ext(imm))
 }
 
 // What a node of two operands x and y folds to, among n nodes; left and right are their numbers.
@@ -311,14 +311,14 @@ pub(crate) fn fold_two(
     ensures { λ r. ⌜ foldIs r ≡ foldTwo (kindIs kind) n sort x y (constantIs left) (constantIs right) ⌝ }
 {
     match kind {
-        NodeKind::Add => fold_add(left, right),
-        NodeKind::Sub => fold_sub(left, right),
-        NodeKind::Mul => fold_mul(left, right),
-        NodeKind::Divu => fold_divu(left, right),
-        NodeKind::Div => fold_div(left, right),
-        NodeKind::Rem => fold_rem(left, right),
-        NodeKind::Sll => fold_sll(left, right),
-        NodeKind::Srl => fold_srl(left, right),
+        NodeKind::Add => fold_add(sort, left, right),
+        NodeKind::Sub => fold_sub(sort, left, right),
+        NodeKind::Mul => fold_mul(sort, left, right),
+        NodeKind::Divu => fold_divu(sort, left, right),
+        NodeKind::Div => fold_div(sort, left, right),
+        NodeKind::Rem => fold_rem(sort, left, right),
+        NodeKind::Sll => fold_sll(sort, left, right),
+        NodeKind::Srl => fold_srl(sort, left, right),
         NodeKind::Ult => fold_ult(n, left, right),
         NodeKind::Eq => fold_eq(n, x, y, left, right),
         NodeKind::And => fold_and(sort, x, y, left, right),
@@ -342,7 +342,7 @@ pub(crate) fn fold_one(kind: NodeKind, n: usize, sort: u64, value: Constant) -> 
     ensures { λ r. ⌜ foldIs r ≡ foldOne (kindIs kind) n sort (constantIs value) ⌝ }
 {
     match kind {
-        NodeKind::Ext => fold_ext(value),
+        NodeKind::Ext => fold_ext(sort, value),
         NodeKind::Not => fold_not(n, sort, value),
         NodeKind::Const => Folded::Stays,
         NodeKind::Read => Folded::Stays,

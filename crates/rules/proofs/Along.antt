@@ -172,7 +172,7 @@ module _ (t : List Node) (Q : ℕ → Type 0) (R : St → St → Type 0) where
           next (q .0) (vis (q .0) (nd .c)) _ (vis-along (q .0) (nd .c)) λ r. s .still (r .0) _ refl) λ p. settle-along (p .0) (p .0) stays refl tt
       process-along (Word op) σ e = binary-along (other (Word op) (ne-eqb (opCode op) 19 (λ z. omega (arith, op-code op, z))) e) σ (nodeAt t k) _ quiet quiet-along
       process-along Ult σ e = binary-along (other Ult refl e) σ (nodeAt t k) _ _ (askBit-along k quiet quiet-along)
-      process-along Ext σ e = unary-along σ (nodeAt t k) foldExt (λ c. open-fold (other Ext refl e) (foldExt c))
+      process-along Ext σ e = let fold : Option ℕ → Fold = foldExt (nodeAt t k .sort) in unary-along σ (nodeAt t k) fold (λ c. open-fold (other Ext refl e) (fold c))
       process-along Ite σ e = next σ (vis σ (nodeAt t k .a)) _ (vis-along σ (nodeAt t k .a)) λ p. ite-along (other Ite refl e) (p .0) (nodeAt t k) (p .1) _
       process-along Eq σ e = binary-along (other Eq refl e) σ (nodeAt t k) _ _ (askBit-along k quiet quiet-along)
       process-along And σ e = binary-along (other And refl e) σ (nodeAt t k) _ _ (askAnd-along k (nodeAt t k .sort))

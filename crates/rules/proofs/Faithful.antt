@@ -3,7 +3,7 @@
 -- Assumes nothing.
 use Prim.Native.Nat.{ℕ, zero, suc, _<_}
 use mathlib.Core.Path.{_≡_, refl, sym, ap, ap₂, _∙_, subst}
-use mathlib.Core.Logic.{_≢_, inl, inr}
+use mathlib.Core.Logic.{_≢_}
 use mathlib.Core.Bool.{Bool, true, false, cond, _&&_, _||_}
 use mathlib.Core.List.{List, [], _∷_}
 use native.Mathlib.Omega.{arith}
@@ -19,7 +19,6 @@ use Rattle.rules.specs.Legal.{AllLegal, Sequential}
 use Rattle.rules.specs.Walk.{St, Mark, fresh, kept, replaced, Held}
 use Rattle.rules.specs.Value.{Value, number, memory, meaning, valueBy, value, Fits}
 use Rattle.rules.specs.Whole.{trivial}
-use Rattle.rules.specs.Laws.{SortFor}
 use Rattle.rules.specs.Demand.{Assigns, SameInit, Same, Faithful, Unreplaced, worthOf}
 use Rattle.rules.specs.Call.{FaithfulOfCall, AnyAssigns, SomeAssigns}
 use Rattle.btor.proofs.Agreement.{cases}
@@ -65,10 +64,6 @@ where-all Q false xs h = tt
 or-right : (x y : Bool) → y ≡ true → (x || y) ≡ true
 or-right true y e = refl
 or-right false y e = e
-
-not-memory : (s s₀ : ℕ) → SortFor s s₀ → s ≢ 3 → s₀ ≢ 3
-not-memory s s₀ (inl e) n z = n (e ∙ z)
-not-memory s s₀ (inr e) n z = omega (arith, e .1, z)
 
 -- whether k took an input
 abbrev taken : List Held → ℕ → Bool
@@ -137,7 +132,7 @@ module _ (how : Reading) (t : List Node) (legal : AllLegal t) (σ : St) (shape :
       (λ q.
       let past = ltb-false r (length t) q in
       let new = subst (MarkStands t (σ .rows) (σ .made) k) e (shape .marks k l) .1 .new past in
-      (not-memory (σ .rows r .sort) (nodeAt t k .sort) (new .sort) (shape .news r past (new .inside) .sort), new .fits))
+      ((λ z. shape .news r past (new .inside) .sort (new .sort ∙ z)), new .fits))
 
   given-fits : (k : ℕ) → k < length t → Fits (nodeAt t k .sort) (β k) → (b : Bool) → Fits (nodeAt t k .sort) (given b k)
   given-fits k l b true = standing-fits k l b (σ .mark k) refl

@@ -45,14 +45,14 @@ module _ (v : ℕ → Value) where
   pub const-ok : (how : Reading) (rows : ℕ → Node) (r : ℕ) → RowOk how r (rows r) → ConstOk (constOf rows r) (v r)
   const-ok how rows r h = cases (λ c. ConstOk c (v r)) (is Const (rows r)) (λ e. sym (worth-as how Const r (rows r) h e)) (λ _. tt)
 
-  pub foldWords-ok : (f : ℕ → ℕ → ℕ) (cx cy : Option ℕ) (p q w : Value) → ConstOk cx p → ConstOk cy q → number (f (num p) (num q)) ≡ w → FoldOk w (foldWords f cx cy)
-  foldWords-ok f none cy p q w hx hy e = tt
-  foldWords-ok f (some x) none p q w hx hy e = tt
-  foldWords-ok f (some x) (some y) p q w hx hy e = sym e ∙ ap₂ (λ a b. number (f (num a) (num b))) hx hy
+  pub foldWords-ok : (s : ℕ) (f : ℕ → ℕ → ℕ) (cx cy : Option ℕ) (p q w : Value) → ConstOk cx p → ConstOk cy q → number (f (num p) (num q)) ≡ w → FoldOk w (foldWords s f cx cy)
+  foldWords-ok s f none cy p q w hx hy e = tt
+  foldWords-ok s f (some x) none p q w hx hy e = tt
+  foldWords-ok s f (some x) (some y) p q w hx hy e = sym e ∙ ap₂ (λ a b. number (f (num a) (num b))) hx hy
 
-  pub foldExt-ok : (cx : Option ℕ) (p w : Value) → ConstOk cx p → number (num p) ≡ w → FoldOk w (foldExt cx)
-  foldExt-ok none p w hx e = tt
-  foldExt-ok (some x) p w hx e = sym e ∙ ap (λ a. number (num a)) hx
+  pub foldExt-ok : (s : ℕ) (cx : Option ℕ) (p w : Value) → ConstOk cx p → number (num p) ≡ w → FoldOk w (foldExt s cx)
+  foldExt-ok s none p w hx e = tt
+  foldExt-ok s (some x) p w hx e = sym e ∙ ap (λ a. number (num a)) hx
 
   module _ (n : ℕ) (n-false : v n ≡ number 0) (n-true : v (n + 1) ≡ number 1) where
     pub shared-ok : (b : Bool) (w : Value) → number (bit b) ≡ w → FoldOk w (shared n b)
@@ -95,7 +95,7 @@ module _ (v : ℕ → Value) where
   -- ---- And and Or with zeros and ones
   module _ (s x y : ℕ) (cx cy : Option ℕ) (w : Value) (hx : ConstOk cx (v x)) (hy : ConstOk cy (v y))
       (nx : (v x ≡ number (num (v x))) × (num (v x) < 2 ^ width s)) (ny : (v y ≡ number (num (v y))) × (num (v y) < 2 ^ width s)) where
-    pub foldAnd-ok : number (bitAnd (num (v x)) (num (v y))) ≡ w → FoldOk w (foldAnd (ones s) x y cx cy)
+    pub foldAnd-ok : number (bitAnd (num (v x)) (num (v y))) ≡ w → FoldOk w (foldAnd s x y cx cy)
     foldAnd-ok e =
         cases-cond (FoldOk w) (isConst cx 0)
         (λ h. let z = isConst-ok cx (v x) 0 hx h in
@@ -110,9 +110,9 @@ module _ (v : ℕ → Value) where
         (λ _. cases-cond (FoldOk w) (isConst cy (ones s))
         (λ h. let z = isConst-ok cy (v y) (ones s) hy h in
         nx .0 ∙ ap number (sym (and-ones s (num (v x)) (nx .1))) ∙ ap (λ p. number (bitAnd (num (v x)) (num p))) (sym z) ∙ e)
-        (λ _. foldWords-ok bitAnd cx cy (v x) (v y) w hx hy e))))
+        (λ _. foldWords-ok s bitAnd cx cy (v x) (v y) w hx hy e))))
 
-    pub foldOr-ok : number (bitOr (num (v x)) (num (v y))) ≡ w → FoldOk w (foldOr (ones s) x y cx cy)
+    pub foldOr-ok : number (bitOr (num (v x)) (num (v y))) ≡ w → FoldOk w (foldOr s x y cx cy)
     foldOr-ok e =
         cases-cond (FoldOk w) (isConst cx 0)
         (λ h. let z = isConst-ok cx (v x) 0 hx h in
@@ -127,7 +127,7 @@ module _ (v : ℕ → Value) where
         (λ _. cases-cond (FoldOk w) (isConst cy (ones s))
         (λ h. let z = isConst-ok cy (v y) (ones s) hy h in
         z ∙ ap number (sym (or-ones s (num (v x)) (nx .1))) ∙ ap (λ p. number (bitOr (num (v x)) (num p))) (sym z) ∙ e)
-        (λ _. foldWords-ok bitOr cx cy (v x) (v y) w hx hy e))))
+        (λ _. foldWords-ok s bitOr cx cy (v x) (v y) w hx hy e))))
 
   -- ---- the walk down the writes finds what the memory holds, if it passed no unsettled write
   abbrev pub FoundValue : Option ℕ → ℕ → Value → ℕ → Type 0

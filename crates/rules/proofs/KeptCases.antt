@@ -4,7 +4,6 @@ use Prim.Native.Nat.{ℕ, _<_}
 use mathlib.Core.Path.{_≡_, refl, sym, _∙_, subst}
 use mathlib.Core.Logic.{_≢_}
 use mathlib.Core.List.{List, [], _∷_}
-use native.Mathlib.Omega.{arith}
 use lib.ListN.{length}
 use lib.Dec.{lit<}
 use Rattle.btor.specs.Operators.{compute}
@@ -15,7 +14,7 @@ use Rattle.rules.specs.Table.{Next, Node, nodeAt}
 use Rattle.rules.specs.Model.{Model}
 use Rattle.rules.specs.Check.{checkNodes, checkSequentials, checkBads, check}
 use Rattle.rules.specs.Legal.{Sequential, Once}
-use Rattle.rules.specs.Walk.{St, Mark, kept, replaced, start}
+use Rattle.rules.specs.Walk.{St, replaced, start}
 use Rattle.rules.specs.Questions.{ask, askOr}
 use Rattle.rules.specs.Visit.{visit1, visit2, settle, finishStay, finish, takeInput, unary, binary, iteOn, process, visit}
 use Rattle.rules.specs.Whole.{waysOf, judgeSequentials, visitAll, judgeBads, Folded, foldBads, fold, run}
@@ -26,6 +25,7 @@ use Rattle.rules.specs.Call.{impl, judgeMode, judgeRoom, modelFrom, brou
 use Rattle.rules.specs.Cases.{mode0}
 use Rattle.rules.specs.Worked.{OfAccepted}
 use Rattle.rules.specs.KeptState.{begun, testedVisit, testedAll, StatesStay, KeptStateOfCall, Fails, summed, TableNeeded, takingRows, taking, SixNeeded, twiceRows, twice, SevenNeeded, keptCall, KeptNext, OfJudged, KeptWorked}
+use Rattle.rules.proofs.Base.{kept≢replaced}
 use Rattle.rules.proofs.Check.{all-legal}
 use Rattle.rules.proofs.Sections.{never}
 use Rattle.rules.proofs.KeptState.{kept-state-of-call}
@@ -40,9 +40,6 @@ nowhere = start [] [] []
 
 nothing : Folded
 nothing = record { state = nowhere; sequentials = []; initial = []; later = []; dropped = []; verdict = 0 }
-
-kept≢replaced : (r : ℕ) (m : Mark) → m ≡ kept → m ≡ replaced r → ⊥
-kept≢replaced r m e q = let z : _≡_ {A = ℕ} 0 1 = cc in omega arith
 
 -- ---- a model with one kept Next, whose state is replaced
 module _ (m : Model) (k : ℕ) where

@@ -12,14 +12,14 @@ use Rattle.rules.specs.Model.{Model, Mode}
 use Rattle.rules.specs.Legal.{WellFormed}
 use Rattle.rules.specs.Walk.{replaced}
 use Rattle.rules.specs.Whole.{Folded, fold}
-use Rattle.rules.specs.Laws.{IsNew, ReplacementBefore, ReplacementServes, ReplacementSort, ReplacementFits, MadeFits, RowKeeps, OperandsBelow}
+use Rattle.rules.specs.Laws.{IsNew, ReplacementBefore, ReplacementServes, ReplacementSort, MadeReplaces, ReplacementFits, MadeFits, RowKeeps, OperandsBelow}
 use Rattle.rules.proofs.Base.{inside-or-past, is-kind}
 use Rattle.rules.proofs.Standing.{Below, Stands, Refs, ConstFits}
-use Rattle.rules.proofs.Shape.{keptAs, MarkStands, Shape, first-word, operand-fits}
+use Rattle.rules.proofs.Shape.{keptAs, MarkStands, Shape, first-word, stands-sort, operand-fits}
 use Rattle.rules.proofs.Walked.{folded}
 
 module _ (m : Model) (how : Mode) (f : Folded) (wf : WellFormed m) (e : fold m how ≡ done f) where
-  the-shape : Shape (m .table) (f .state .rows) (f .state .made) (f .state .mark)
+  pub the-shape : Shape (m .table) (f .state .rows) (f .state .made) (f .state .mark)
   the-shape = folded m how wf f e .fine .shape
 
   -- what is recorded for a replaced node
@@ -39,9 +39,18 @@ pub replacement-serves : ReplacementServes
 unfolding ReplacementServes
 replacement-serves m how f wf e k r l q i = standing m how f wf e k r l q .1 .serve i
 
+-- what is recorded for a node has its sort
+sort-kept : (m : Model) (how : Mode) (f : Folded) → WellFormed m → fold m how ≡ done f → (k r : ℕ) → k < length (m .table) → f .state .mark k ≡ replaced r → f .state .rows r .sort ≡ nodeAt (m .table) k .sort
+sort-kept m how f wf e k r l q =
+    stands-sort (m .table) (f .state .rows) (f .state .made) (f .state .mark) (the-shape m how f wf e) r (nodeAt (m .table) k .sort) (standing m how f wf e k r l q .1)
+
 pub replacement-sort : ReplacementSort
 unfolding ReplacementSort
-replacement-sort m how f wf e k r l q = let h = standing m how f wf e k r l q .1 in (h .sort, λ i. h .new i .sort)
+replacement-sort = sort-kept
+
+pub made-replaces : MadeReplaces
+unfolding MadeReplaces
+made-replaces m how f wf e r l u = let w = folded m how wf f e .fine .used r l u in (w .0, w .1, w .2, sort-kept m how f wf e (w .0) r (w .1) (w .2))
 
 pub replacement-fits : ReplacementFits
 unfolding ReplacementFits
@@ -67,6 +76,7 @@ row-keeps m how f wf e k l =
       from = λ q. first-word (nd .b) (g .b) (subst (λ K. keptAs K nd ≡ keptAs K g) (is-kind Ext g q) (a .kept));
       init = λ q. first-word (nd .b) (g .b) (subst (λ K. keptAs K nd ≡ keptAs K g) (is-kind State g q) (a .kept));
       state = λ q. first-word (nd .a) (g .a) (subst (λ K. keptAs K nd ≡ keptAs K g) (is-kind Next g q) (a .kept));
+      unused = a .unused;
     }
 
 pub operands-below : OperandsBelow

@@ -18,7 +18,7 @@ use Rattle.rules.proofs.Base.{is-kind}
 pub record LegalAs (t : List Node) (k : ℕ) (K : Kind) (nd : Node) : Type 0 where
   pub before : All (λ x. x < k) (operandsAs K nd)
   pub serve : All (λ x. mayServe (nodeAt t x) ≡ true) (operandsAs K nd)
-  pub sorts : All (λ b. b ≡ true) (sortedAs t (λ x. nodeAt t x .sort) K nd)
+  pub sorts : All (λ b. b ≡ true) (sortedAs (nodeAt t) K nd)
 
 pub legal-as : (t : List Node) (k : ℕ) (K : Kind) (nd : Node) → nd .kind ≡ K → Legal t k nd → LegalAs t k K nd
 legal-as t k K nd e g = subst (λ J. LegalAs t k J nd) e (record { before = g .before; serve = g .serve; sorts = g .sorts })

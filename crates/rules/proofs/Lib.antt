@@ -21,6 +21,7 @@ pub mod Demand
 pub mod Tally
 pub mod Room
 pub mod Laws
+pub mod Passes
 pub mod Cases
 pub mod Needed
 pub mod Fuel
@@ -41,4 +42,6 @@ pub mod Judged
 pub mod Along
 pub mod KeptState
 pub mod KeptCases
+pub mod OwnSort
+pub mod OwnSortCases
 pub mod Numbered

@@ -3,7 +3,7 @@
 use Prim.Native.Nat.{ℕ, zero, suc, _+_, _-_, _<_, _≤_, _^_}
 use mathlib.Core.Path.{_≡_, refl, sym, ap, _∙_, subst}
 use mathlib.Core.Logic.{_≢_}
-use mathlib.Core.Bool.{Bool, true, false, cond}
+use mathlib.Core.Bool.{Bool, true, false, cond, _||_, not}
 use mathlib.Core.List.{List, [], _∷_, _++_}
 use native.Mathlib.Omega.{arith}
 use native.Mathlib.Nat.{add-zero}
@@ -14,21 +14,21 @@ use borrow.Author.Tests.{eqb-true}
 use Rattle.btor.specs.Operators.{Reading, rust, standard}
 use Rattle.rules.specs.Lists.{put, All}
 use Rattle.rules.specs.Table.{Kind, Const, Read, Write, Word, Ult, Ext, Ite, Eq, And, Or, Not, State, Next, Input, Bad, Node, constant, unknown, kindCode, nodeAt, is, operandsAs, operands}
-use Rattle.rules.specs.Check.{mayServe}
+use Rattle.rules.specs.Check.{unusedAs, mayServe}
 use Rattle.rules.specs.Legal.{AllLegal}
 use Rattle.rules.specs.Walk.{Mark, fresh, kept, replaced, Question, Held, startRows}
 use Rattle.rules.specs.Fold.{constOf}
 use Rattle.rules.specs.Questions.{firstReply, otherReplies}
 use Rattle.rules.specs.Tally.{replyAt, Apart}
 use Rattle.rules.specs.Laws.{MadeRow}
-use Rattle.rules.proofs.Base.{no, inside-or-past, all-map, all-join, put-other, put-all, is-kind, kind-is}
+use Rattle.rules.proofs.Base.{no, fresh≢replaced, inside-or-past, all-map, all-join, put-same, put-other, put-all, is-kind, kind-is}
 use Rattle.rules.proofs.Words.{width-bit}
 use Rattle.rules.proofs.Legal.{legal-as}
 use Rattle.rules.proofs.Start.{given-row, new-row}
 use Rattle.rules.proofs.Standing.{Below, Stands, Refs, ConstFits, Shares, stands-itself, stands-row, stands-const, refs-map, const-fits}
 use Rattle.rules.proofs.Search.{Points, Strict}
 
--- the words of a row that rewriting leaves
+-- the word of a row that is no operand, or that is one and is not rewritten
 abbrev pub keptAs : Kind → Node → List ℕ
 keptAs Const nd = nd .a ∷ []
 keptAs Read nd = []
@@ -52,9 +52,10 @@ pub record Alike (nd g : Node) : Type 0 where
   pub sort : nd .sort ≡ g .sort
   pub name : nd .name ≡ g .name
   pub kept : keptAs (g .kind) nd ≡ keptAs (g .kind) g
+  pub unused : unusedAs (g .kind) nd ≡ unusedAs (g .kind) g
 
 pub alike-itself : (g : Node) → Alike g g
-alike-itself g = record { kind = refl; sort = refl; name = refl; kept = refl }
+alike-itself g = record { kind = refl; sort = refl; name = refl; kept = refl; unused = refl }
 
 pub first-word : (x y : ℕ) → _≡_ {A = List ℕ} (x ∷ []) (y ∷ []) → x ≡ y
 first-word x y e = ap (λ l. getD l 0 0) e
@@ -72,6 +73,22 @@ module _ (t : List Node) where
     pub alike : (k : ℕ) → k < length t → Alike (rows k) (nodeAt t k)
     pub refs : (k : ℕ) → k < length t → Refs t rows made k (operands (rows k)) (operands (nodeAt t k))
     pub marks : (k : ℕ) → k < length t → MarkStands rows made k (mark k)
+
+  -- every made constant stands for a node
+  abbrev pub Used : (ℕ → Mark) → ℕ → Type 0
+  Used mark made = (r : ℕ) → length t + 2 ≤ r → r < length t + 2 + made → (k : ℕ) × (k < length t) × (mark k ≡ replaced r)
+
+  -- a node that had no replacement is marked
+  pub used-put : (mark : ℕ → Mark) (made k : ℕ) (m : Mark) → mark k ≡ fresh → Used mark made → Used (put mark k m) made
+  used-put mark made k m e h r l u =
+      let w = h r l u in
+      (w .0, w .1, put-other mark k m (w .0) (λ z. fresh≢replaced r (mark k) e (ap mark (sym z) ∙ w .2)) ∙ w .2)
+
+  -- and where one more constant is made, it is by that
+  pub used-made : (mark : ℕ → Mark) (made k : ℕ) → k < length t → mark k ≡ fresh → Used mark made → Used (put mark k (replaced (length t + 2 + made))) (suc made)
+  used-made mark made k i e h r l u =
+      inside-or-past _ r (length t + 2 + made) (λ q. used-put mark made k (replaced (length t + 2 + made)) e h r l q)
+      (λ q. let z : length t + 2 + made ≡ r = omega arith in (k, i, put-same mark k (replaced (length t + 2 + made)) ∙ ap replaced z))
 
   -- a state that took an input, and the constant made for it
   pub record Took (h : Held) : Type 0 where
@@ -96,7 +113,7 @@ module _ (t : List Node) where
 
   -- so none of them is fresh
   pub marked-fresh : (mark : ℕ → Mark) (k : ℕ) → mark k ≡ fresh → (hs : List Held) → Marked mark hs → All (λ h. h .state ≢ k) hs
-  marked-fresh mark k e hs h = all-map (λ h. mark (h .state) ≡ replaced (h .by)) (λ h. h .state ≢ k) (λ h q z. let m = ap mark z in let o : _≡_ {A = ℕ} 0 1 = cc in let i : ⊥ = omega arith in absurd i) hs h
+  marked-fresh mark k e hs h = all-map (λ h. mark (h .state) ≡ replaced (h .by)) (λ h. h .state ≢ k) (λ h q z. fresh≢replaced (h .by) (mark k) e (ap mark (sym z) ∙ q)) hs h
 
   pub marked-put : (mark : ℕ → Mark) (k : ℕ) (m : Mark) (hs : List Held) → All (λ h. h .state ≢ k) hs → Marked mark hs → Marked (put mark k m) hs
   marked-put mark k m [] n h = tt
@@ -134,7 +151,7 @@ module _ (t : List Node) where
             true! = put-other rows r nd (length t + 1) (λ e. omega arith) ∙ h .shares .true!;
           };
           news = λ j i u. at j i u (eqb j r) refl;
-          past = put-all (λ j (q : Node). length t ≤ j → is Write q ≡ false) rows r nd (λ _. ap (λ K. eqb (kindCode K) 3) (w .const)) (h .past);
+          past = put-all (λ j (q : Node). length t ≤ j → is Write q ≡ false) rows r nd (λ _. ap (is Write) (w .const)) (h .past);
           alike = put-all (λ j (q : Node). j < length t → Alike q (nodeAt t j)) rows r nd (λ i. let o : ⊥ = omega arith in absurd o) (h .alike);
           refs = put-all (λ j (q : Node). j < length t → Refs t (put rows r nd) (suc made) j (operands q) (operands (nodeAt t j))) rows r nd
               (λ i. let o : ⊥ = omega arith in absurd o)
@@ -158,6 +175,15 @@ module _ (t : List Node) where
         }
 
     -- ---- what a shape says
+    -- what stands for a node has its sort, and serves
+    pub stands-sort : (x s : ℕ) → Stands t rows made x s → rows x .sort ≡ s
+    stands-sort x s q = inside-or-past _ x (length t) (λ l. h .alike x l .sort ∙ q .sort l) (λ l. q .new l .sort)
+
+    pub stands-serves : (x s : ℕ) → Stands t rows made x s → mayServe (rows x) ≡ true
+    stands-serves x s q =
+        inside-or-past _ x (length t) (λ l. ap (λ K. not (eqb (kindCode K) (kindCode Next) || eqb (kindCode K) (kindCode Bad))) (h .alike x l .kind) ∙ q .serve l)
+        (λ l. ap mayServe (h .news x l (q .new l .inside) .const))
+
     module _ (legal : AllLegal t) where
       write-refs : (m : ℕ) → m < length t → rows m .kind ≡ Write → nodeAt t m .kind ≡ Write
           → Refs t rows made m (rows m .a ∷ rows m .b ∷ rows m .c ∷ []) (nodeAt t m .a ∷ nodeAt t m .b ∷ nodeAt t m .c ∷ [])
@@ -209,7 +235,7 @@ module _ (t : List Node) where
           subst (λ j. P (startRows t j)) (sym q) (subst P (sym (new-row t (r - length t))) (f (r - length t) q))
 
       bit-row : (x : ℕ) → x < 2 → MadeRow (constant 1 x)
-      bit-row x l = record { const = refl; sort = λ z. omega arith; fits = subst (λ w. x < 2 ^ w) (sym width-bit) l }
+      bit-row x l = record { const = refl; known = refl; sort = λ z. omega arith; fits = subst (λ w. x < 2 ^ w) (sym width-bit) l }
 
       row : (i : ℕ) → i < 2 → MadeRow (getD (constant 1 0 ∷ constant 1 1 ∷ []) i unknown)
       row zero l = bit-row 0 (omega arith)

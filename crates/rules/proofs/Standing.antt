@@ -3,7 +3,7 @@
 -- Assumes nothing.
 use Prim.Native.Nat.{ℕ, suc, _+_, _<_, _≤_, _^_}
 use mathlib.Core.Path.{_≡_, refl, sym, ap, _∙_, subst}
-use mathlib.Core.Logic.{_≢_, inl, inr}
+use mathlib.Core.Logic.{_≢_}
 use mathlib.Core.Bool.{Bool, true, false, _&&_}
 use mathlib.Core.Option.{Option, none, some}
 use mathlib.Core.List.{List, [], _∷_}
@@ -11,7 +11,7 @@ use native.Mathlib.Omega.{arith}
 use lib.ListN.{length}
 use lib.Dec.{eqb}
 use lib.Bits.{bitAnd, bitOr, and-lt, or-lt}
-use borrow.Author.Tests.{eqb-true, eqb-false, ltb-true}
+use borrow.Author.Tests.{eqb-true, ltb-true}
 use Rattle.btor.specs.Operators.{Op, Reading, compute, complement}
 use Rattle.btor.specs.Sorts.{width, ones}
 use Rattle.rules.specs.Lists.{put}
@@ -19,11 +19,11 @@ use Rattle.rules.specs.Table.{Const, Node, constant, nodeAt, is}
 use Rattle.rules.specs.Check.{knownSort, mayServe}
 use Rattle.rules.specs.Legal.{AllLegal}
 use Rattle.rules.specs.Fold.{Fold, stays, swap, make, shared, constOf, isConst, foldWords, foldTest, foldEq, foldAnd, foldOr, foldNot, foldExt, foldConst}
-use Rattle.rules.specs.Laws.{SortFor, MadeRow}
+use Rattle.rules.specs.Laws.{MadeRow}
 use Rattle.btor.proofs.Agreement.{cases}
 use Rattle.btor.proofs.Laws.{compute-fits}
 use Rattle.rules.proofs.Base.{cases-cond, and-both, inside-or-past, put-other, is-kind, kind-is}
-use Rattle.rules.proofs.Words.{complement-fits, fits-word, width-bit, width-word, ones-bit, known-sort}
+use Rattle.rules.proofs.Words.{complement-fits, fits-word, width-bit, width-word}
 use Rattle.rules.proofs.Legal.{legal-as}
 
 module _ (t : List Node) where
@@ -40,7 +40,7 @@ module _ (t : List Node) where
       pub inside : x < length t + 2 + made
       pub const : rows x .kind ≡ Const
       pub fits : rows x .a < 2 ^ width s
-      pub sort : SortFor (rows x .sort) s
+      pub sort : rows x .sort ≡ s
 
     pub record Stands (x s : ℕ) : Type 0 where
       pub serve : x < length t → mayServe (nodeAt t x) ≡ true
@@ -61,7 +61,7 @@ module _ (t : List Node) where
     abbrev pub FoldStands : ℕ → ℕ → Fold → Type 0
     FoldStands k s stays = Unit
     FoldStands k s (swap r) = Below k r × Stands r s
-    FoldStands k s (make s′ y) = (y < 2 ^ width s) × MadeRow (constant s′ y) × SortFor s′ s
+    FoldStands k s (make s′ y) = (s′ ≡ s) × MadeRow (constant s′ y)
 
     abbrev pub ConstFits : Option ℕ → ℕ → Type 0
     ConstFits none s = Unit
@@ -89,7 +89,7 @@ module _ (t : List Node) where
               inside = q .inside;
               const = ap (λ (w : Node). w .kind) e ∙ q .const;
               fits = subst (λ (w : Node). w .a < 2 ^ width s) (sym e) (q .fits);
-              sort = subst (λ (w : Node). SortFor (w .sort) s) (sym e) (q .sort);
+              sort = ap (λ (w : Node). w .sort) e ∙ q .sort;
             };
       }
 
@@ -105,7 +105,7 @@ module _ (t : List Node) where
               inside = omega (arith, q .inside);
               const = ap (λ (w : Node). w .kind) e ∙ q .const;
               fits = subst (λ (w : Node). w .a < 2 ^ width s) (sym e) (q .fits);
-              sort = subst (λ (w : Node). SortFor (w .sort) s) (sym e) (q .sort);
+              sort = ap (λ (w : Node). w .sort) e ∙ q .sort;
             };
       }
 
@@ -142,7 +142,7 @@ module _ (t : List Node) where
                 inside = omega arith;
                 const = ap (λ (w : Node). w .kind) e;
                 fits = subst (λ (w : Node). w .a < 2 ^ width s) (sym e) (subst (λ i. x < 2 ^ width i) (sym q) (subst (λ w. x < 2 ^ w) (sym width-bit) b));
-                sort = subst (λ (w : Node). SortFor (w .sort) s) (sym e) (inl (sym q));
+                sort = ap (λ (w : Node). w .sort) e ∙ sym q;
               };
         }
 
@@ -150,18 +150,15 @@ module _ (t : List Node) where
     shared-fold k s true q = ((λ i. let o : ⊥ = omega arith in absurd o), shared-stands s (length t + 1) 1 (omega arith) (omega arith) (omega arith) (sh .true!) q)
     shared-fold k s false q = ((λ i. let o : ⊥ = omega arith in absurd o), shared-stands s (length t) 0 (omega arith) (omega arith) (omega arith) (sh .false!) q)
 
-    made-row : (s y : ℕ) → s ≢ 3 → y < 2 ^ width s → MadeRow (constant s y)
-    made-row s y n h = record { const = refl; sort = n; fits = h }
-
     -- a new constant of the node's own sort
-    pub own-fold : (k s y : ℕ) → s ≢ 3 → y < 2 ^ width s → FoldStands rows made k s (make s y)
-    own-fold k s y n h = (h, made-row s y n h, inl refl)
+    pub own-fold : (k s y : ℕ) → knownSort s ≡ true → s ≢ 3 → y < 2 ^ width s → FoldStands rows made k s (make s y)
+    own-fold k s y i n h = (refl, record { const = refl; known = i; sort = n; fits = h })
 
-    -- and one of sort 2, for a node of sort 2
-    word-fold : (k s y : ℕ) → s ≡ 2 → y < 2 ^ 64 → FoldStands rows made k s (make 2 y)
-    word-fold k s y e h = subst (λ i. FoldStands rows made k i (make 2 y)) (sym e) (own-fold k 2 y (λ z. omega arith) (subst (λ w. y < 2 ^ w) (sym width-word) h))
+    -- for a node of sort 2, of any word
+    word-fold : (k s y : ℕ) → s ≡ 2 → y < 2 ^ 64 → FoldStands rows made k s (make s y)
+    word-fold k s y e h = own-fold k s y (ap knownSort e) (λ z. omega arith) (subst (λ w. y < 2 ^ w) (sym (ap width e ∙ width-word)) h)
 
-    pub words-fold : (k s : ℕ) (how : Reading) (op : Op) (cx cy : Option ℕ) → s ≡ 2 → ConstFits rows made cx 2 → FoldStands rows made k s (foldWords (compute how op) cx cy)
+    pub words-fold : (k s : ℕ) (how : Reading) (op : Op) (cx cy : Option ℕ) → s ≡ 2 → ConstFits rows made cx 2 → FoldStands rows made k s (foldWords s (compute how op) cx cy)
     words-fold k s how op none cy e h = tt
     words-fold k s how op (some x) none e h = tt
     words-fold k s how op (some x) (some y) e h = word-fold k s (compute how op x y) e (compute-fits how op x y (fits-word 2 x h))
@@ -174,14 +171,14 @@ module _ (t : List Node) where
     pub eq-fold : (k s x y : ℕ) (cx cy : Option ℕ) → s ≡ 1 → FoldStands rows made k s (foldEq (length t) x y cx cy)
     eq-fold k s x y cx cy e = cases-cond (FoldStands rows made k s) (eqb x y) (λ _. shared-fold k s true e) (λ _. test-fold k s eqb cx cy e)
 
-    pub not-fold : (k s : ℕ) (cx : Option ℕ) → s ≢ 3 → FoldStands rows made k s (foldNot (length t) s cx)
-    not-fold k s none n = tt
-    not-fold k s (some x) n =
+    pub not-fold : (k s : ℕ) (cx : Option ℕ) → knownSort s ≡ true → s ≢ 3 → FoldStands rows made k s (foldNot (length t) s cx)
+    not-fold k s none i n = tt
+    not-fold k s (some x) i n =
         cases-cond (FoldStands rows made k s) (eqb s 1 && eqb x 0) (λ e. shared-fold k s true (eqb-true s 1 (and-both _ _ e .0)))
         (λ _. cases-cond (FoldStands rows made k s) (eqb s 1 && eqb x 1) (λ e. shared-fold k s false (eqb-true s 1 (and-both _ _ e .0)))
-        (λ _. own-fold k s (complement (width s) x) n (complement-fits (width s) x)))
+        (λ _. own-fold k s (complement (width s) x) i n (complement-fits (width s) x)))
 
-    pub ext-fold : (k s s₀ : ℕ) (cx : Option ℕ) → s ≡ 2 → ConstFits rows made cx s₀ → FoldStands rows made k s (foldExt cx)
+    pub ext-fold : (k s s₀ : ℕ) (cx : Option ℕ) → s ≡ 2 → ConstFits rows made cx s₀ → FoldStands rows made k s (foldExt s cx)
     ext-fold k s s₀ none e h = tt
     ext-fold k s s₀ (some x) e h = word-fold k s x e (fits-word s₀ x h)
 
@@ -193,33 +190,20 @@ module _ (t : List Node) where
     -- ---- And and Or
     module _ (k s x y : ℕ) (cx cy : Option ℕ) (known : knownSort s ≡ true) (ne : s ≢ 3) (bx : Below k x) (by : Below k y)
         (sx : Stands rows made x s) (sy : Stands rows made y s) (fx : ConstFits rows made cx s) (fy : ConstFits rows made cy s) where
-      -- two constants that are neither zeros nor ones are not of sort 1
-      last-fold : (f : ℕ → ℕ → ℕ) → ((a b : ℕ) → a < 2 ^ width s → b < 2 ^ width s → f a b < 2 ^ width s)
-          → (c d : Option ℕ) → ConstFits rows made c s → ConstFits rows made d s → isConst c 0 ≡ false → isConst c (ones s) ≡ false → FoldStands rows made k s (foldWords f c d)
-      last-fold f h none d fc fd z o = tt
-      last-fold f h (some p) none fc fd z o = tt
-      last-fold f h (some p) (some q) fc fd z o =
-          let fit = h p q fc fd in
-          let row : MadeRow (constant 2 (f p q)) = made-row 2 (f p q) (λ e. omega arith) (subst (λ w. f p q < 2 ^ w) (sym width-word) (fits-word s (f p q) fit)) in
-          known-sort _ s known
-          (λ e.
-          let one : ones s ≡ 1 = ap ones e ∙ ones-bit in
-          let two : 2 ^ width s ≡ 2 = ap (λ i. 2 ^ width i) e ∙ ap (λ w. 2 ^ w) width-bit in
-          let a = eqb-false p 0 z in
-          let b : p ≡ 1 → ⊥ = λ i. eqb-false p (ones s) o (i ∙ sym one) in
-          let i : ⊥ = omega (arith, fc, two, a, b) in absurd i)
-          (λ e. (fit, row, inl (sym e)))
-          (λ e. absurd (ne e))
-          (λ e. (fit, row, inr (refl, e .0, e .1)))
+      last-fold : (f : ℕ → ℕ → ℕ) → ((a b : ℕ) → a < 2 ^ width s → b < 2 ^ width s → f a b < 2 ^ width s) → (c d : Option ℕ) → ConstFits rows made c s → ConstFits rows made d s
+          → FoldStands rows made k s (foldWords s f c d)
+      last-fold f h none d fc fd = tt
+      last-fold f h (some p) none fc fd = tt
+      last-fold f h (some p) (some q) fc fd = own-fold k s (f p q) known ne (h p q fc fd)
 
-      pub and-fold : FoldStands rows made k s (foldAnd (ones s) x y cx cy)
+      pub and-fold : FoldStands rows made k s (foldAnd s x y cx cy)
       and-fold =
-          cases-cond (FoldStands rows made k s) (isConst cx 0) (λ _. (bx, sx)) (λ z. cases-cond (FoldStands rows made k s) (isConst cy 0) (λ _. (by, sy))
-          (λ _. cases-cond (FoldStands rows made k s) (isConst cx (ones s)) (λ _. (by, sy)) (λ o. cases-cond (FoldStands rows made k s) (isConst cy (ones s)) (λ _. (bx, sx))
-          (λ _. last-fold bitAnd (λ a b i j. and-lt (width s) a b i j) cx cy fx fy z o))))
+          cases-cond (FoldStands rows made k s) (isConst cx 0) (λ _. (bx, sx)) (λ _. cases-cond (FoldStands rows made k s) (isConst cy 0) (λ _. (by, sy))
+          (λ _. cases-cond (FoldStands rows made k s) (isConst cx (ones s)) (λ _. (by, sy)) (λ _. cases-cond (FoldStands rows made k s) (isConst cy (ones s)) (λ _. (bx, sx))
+          (λ _. last-fold bitAnd (λ a b i j. and-lt (width s) a b i j) cx cy fx fy))))
 
-      pub or-fold : FoldStands rows made k s (foldOr (ones s) x y cx cy)
+      pub or-fold : FoldStands rows made k s (foldOr s x y cx cy)
       or-fold =
-          cases-cond (FoldStands rows made k s) (isConst cx 0) (λ _. (by, sy)) (λ z. cases-cond (FoldStands rows made k s) (isConst cy 0) (λ _. (bx, sx))
-          (λ _. cases-cond (FoldStands rows made k s) (isConst cx (ones s)) (λ _. (bx, sx)) (λ o. cases-cond (FoldStands rows made k s) (isConst cy (ones s)) (λ _. (by, sy))
-          (λ _. last-fold bitOr (λ a b i j. or-lt (width s) a b i j) cx cy fx fy z o))))
+          cases-cond (FoldStands rows made k s) (isConst cx 0) (λ _. (by, sy)) (λ _. cases-cond (FoldStands rows made k s) (isConst cy 0) (λ _. (bx, sx))
+          (λ _. cases-cond (FoldStands rows made k s) (isConst cx (ones s)) (λ _. (bx, sx)) (λ _. cases-cond (FoldStands rows made k s) (isConst cy (ones s)) (λ _. (by, sy))
+          (λ _. last-fold bitOr (λ a b i j. or-lt (width s) a b i j) cx cy fx fy))))

@@ -12,11 +12,11 @@ use lib.ListN.{length}
 use lib.Dec.{eqb}
 use borrow.Author.Tests.{eqb-true, eqb-false, ltb-true, not-true}
 use Rattle.btor.specs.Operators.{compute, less, bit}
-use Rattle.btor.specs.Sorts.{width, ones}
+use Rattle.btor.specs.Sorts.{width}
 use Rattle.rules.specs.Lists.{put, All}
 use Rattle.rules.specs.Refusal.{Out, _>>=_}
 use Rattle.rules.specs.Table.{Kind, Const, Read, Write, Word, Ult, Ext, Ite, Eq, And, Or, Not, State, Next, Input, Bad, Node, with, constant, nodeAt, is, operands, fits}
-use Rattle.rules.specs.Check.{mayServe}
+use Rattle.rules.specs.Check.{knownSort, unusedAs, mayServe}
 use Rattle.rules.specs.Legal.{Legal, AllLegal}
 use Rattle.rules.specs.Walk.{St, Mark, fresh, kept, replaced, Held, setRow, setMark, addConst, setInputs, addHeld, addTally}
 use Rattle.rules.specs.Fold.{Fold, stays, swap, make, constOf, foldWords, foldTest, foldEq, foldAnd, foldOr, foldNot, foldExt}
@@ -25,15 +25,14 @@ use Rattle.rules.specs.Questions.{quiet}
 use Rattle.rules.specs.Visit.{Ways, Branch, left, right, undecided, branch, newNumber, settle, finishStay, finish, visit1, visit2, visit3, unary, binary, forward, iteOn, takeInput, process, visitMarked, visit}
 use Rattle.rules.specs.Tally.{writes, ifReplaced}
 use Rattle.rules.specs.Room.{due}
-use Rattle.rules.specs.Laws.{SortFor}
 use Rattle.btor.proofs.Agreement.{cases}
 use Rattle.rules.proofs.Base.{mk, all-join, If, if-bind, put-same, put-other}
-use Rattle.rules.proofs.Standing.{Below, Ref, Refs, FoldStands, ConstFits, stands-itself, stands-row, stands-const, own-fold, words-fold, test-fold, eq-fold, not-fold, ext-fold, const-fold, and-fold, or-fold}
+use Rattle.rules.proofs.Standing.{Below, Stands, Ref, Refs, FoldStands, ConstFits, stands-itself, stands-row, stands-const, own-fold, words-fold, test-fold, eq-fold, not-fold, ext-fold, const-fold, and-fold, or-fold}
 use Rattle.rules.proofs.Budget.{unpaid-same, unpaid-put, credit-put, credit-replaced}
 use Rattle.rules.proofs.Search.{Strict, looked-writes, found-fold, find-among, strict-zero, tally-strict}
 use Rattle.rules.proofs.Questions.{Asks, quiet-asks, bit-asks, and-asks, ite-asks}
 use Rattle.rules.proofs.Went.{fee, Fine, At, Later, Went, went-none, went-both, Visited}
-use Rattle.rules.proofs.Shape.{Books, keptAs, Alike, MarkStands, marked-fresh, marked-put, shape-row, shape-const, shape-mark, points, operand-fits, books-held, books-passed}
+use Rattle.rules.proofs.Shape.{Shape, Books, Used, keptAs, Alike, MarkStands, used-put, used-made, marked-fresh, marked-put, shape-row, shape-const, shape-mark, points, operand-fits, books-held, books-passed}
 
 module _ (t : List Node) (ways : Ways) (ins reps : List ℕ) where
   module _ (legal : AllLegal t) (vis : St → ℕ → Out (St × ℕ)) (vis-went : (σ : St) (j : ℕ) → j < length t → Fine t ways ins reps σ → If (Visited t ways ins reps j σ) (vis σ j))
@@ -49,38 +48,49 @@ module _ (t : List Node) (ways : Ways) (ins reps : List ℕ) where
       same-sort = ap (λ (w : Node). w .sort) eg
 
       -- ---- the node is settled: it pays
+      -- k marked, among rows with perhaps a constant more
+      abbrev with-mark : St → (ℕ → Node) → ℕ → Mark → St
+      with-mark σ₁ rows made mk =
+          record { rows = rows; mark = put (σ₁ .mark) k mk; made = made; inputs = σ₁ .inputs; replies = σ₁ .replies; asked = σ₁ .asked; held = σ₁ .held; looked = σ₁ .looked; passed = σ₁ .passed }
+
       settled : (a m : ℕ) (σ₁ : St) (f : Fold) → a ≤ 3 → m ≤ fee t k → Here a m σ₁ → Folds σ₁ f → If (Visited t ways ins reps k σ) (settle t ways k σ₁ f)
       unfolding settle
       settled a m σ₁ f ha hm x ff = go f ff
         where
-          paid : (σ₂ : St) (mk : Mark) → Fine t ways ins reps σ₂ → Later t ways ins reps σ₁ σ₂ → MarkStands t (σ₂ .rows) (σ₂ .made) k mk → ((p : ℕ) → due p mk ≡ 0) → ((i : ℕ) → σ₂ .mark i ≡ σ₁ .mark i)
-              → σ₂ .made ≤ σ₁ .made + 1 → σ₂ .asked ≡ σ₁ .asked → σ₂ .looked ≡ σ₁ .looked → Went t ways ins reps (suc k) 0 0 σ (setMark σ₂ k mk)
-          paid σ₂ mk f₂ lt ms z same em ea el =
-              let still : σ₂ .mark k ≡ fresh = same k ∙ x .above k (omega arith) ∙ fresh! in
-              let ea′ : length (σ₂ .asked) ≡ length (σ₁ .asked) = ap length ea in
-              let same₁ = unpaid-same (λ k. 1) (length t) (σ₂ .mark) (σ₁ .mark) (λ i j. same i) in
-              let same₃ = unpaid-same (λ k. 3) (length t) (σ₂ .mark) (σ₁ .mark) (λ i j. same i) in
-              let sameF = unpaid-same (fee t) (length t) (σ₂ .mark) (σ₁ .mark) (λ i j. same i) in
+          -- k is fresh until then
+          still : σ₁ .mark k ≡ fresh
+          still = x .above k (omega arith) ∙ fresh!
+
+          paid : (rows : ℕ → Node) (made : ℕ) (mk : Mark) → Shape t rows made (σ₁ .mark) → ((z s : ℕ) → At t ways ins reps σ₁ z s → Stands t rows made z s) → MarkStands t rows made k mk
+              → Used t (put (σ₁ .mark) k mk) made → ((p : ℕ) → due p mk ≡ 0) → made ≤ σ₁ .made + 1 → Went t ways ins reps (suc k) 0 0 σ (with-mark σ₁ rows made mk)
+          paid rows made mk sh lt ms us z em =
               record {
-                fine = record { shape = shape-mark t (σ₂ .rows) (σ₂ .made) (σ₂ .mark) (f₂ .shape) k mk ms; books = f₂ .books; marked = marked-put t (σ₂ .mark) k mk (σ₂ .held) (marked-fresh t (σ₂ .mark) k still (σ₂ .held) (f₂ .marked)) (f₂ .marked); fair = f₂ .fair; gained = omega (arith, f₂ .gained, credit-put (fee t) (length t) (σ₂ .mark) k mk (λ p. subst (λ x. ifReplaced p x ≤ ifReplaced p mk) (sym still) (omega arith))) };
-                above = λ i j. put-other (σ₂ .mark) k mk i (λ r. omega arith) ∙ same i ∙ x .above i (omega arith);
+                fine = record {
+                  shape = shape-mark t rows made (σ₁ .mark) sh k mk ms;
+                  books = x .fine .books;
+                  used = us;
+                  marked = marked-put t (σ₁ .mark) k mk (σ₁ .held) (marked-fresh t (σ₁ .mark) k still (σ₁ .held) (x .fine .marked)) (x .fine .marked);
+                  fair = x .fine .fair;
+                  gained = omega (arith, x .fine .gained, credit-put (fee t) (length t) (σ₁ .mark) k mk (λ p. subst (λ x. ifReplaced p x ≤ ifReplaced p mk) (sym still) (omega arith)));
+                };
+                above = λ i j. put-other (σ₁ .mark) k mk i (λ r. omega arith) ∙ x .above i (omega arith);
                 later = λ w s h. lt w s (x .later w s h);
-                few = omega (arith, x .few, same₁, unpaid-put (λ k. 1) (length t) (σ₂ .mark) k mk l still z, em);
-                asks = omega (arith, x .asks, same₃, unpaid-put (λ k. 3) (length t) (σ₂ .mark) k mk l still z, ea′);
-                looks = omega (arith, x .looks, sameF, unpaid-put (fee t) (length t) (σ₂ .mark) k mk l still z, el);
+                few = omega (arith, x .few, unpaid-put (λ k. 1) (length t) (σ₁ .mark) k mk l still z, em);
+                asks = omega (arith, x .asks, unpaid-put (λ k. 3) (length t) (σ₁ .mark) k mk l still z);
+                looks = omega (arith, x .looks, unpaid-put (fee t) (length t) (σ₁ .mark) k mk l still z);
               }
 
           go : (f : Fold) → Folds σ₁ f → If (Visited t ways ins reps k σ) (settle t ways k σ₁ f)
           go stays h =
               record {
-                went = paid σ₁ kept (x .fine) (λ w s q. q) tt (λ p. refl) (λ i. refl) (omega arith) refl refl;
+                went = paid (σ₁ .rows) (σ₁ .made) kept (x .fine .shape) (λ w s q. q) tt (used-put t (σ₁ .mark) (σ₁ .made) k kept still (x .fine .used)) (λ p. refl) (omega arith);
                 upto = λ _. omega arith;
                 stands = λ q. stands-itself t (σ₁ .rows) (σ₁ .made) k l q;
               }
           go (swap r) h =
               let st : At t ways ins reps σ₁ r (nodeAt t k .sort) = subst (At t ways ins reps σ₁ r) same-sort (h .1) in
               record {
-                went = paid σ₁ (replaced r) (x .fine) (λ w s q. q) (h .0, st) (λ p. refl) (λ i. refl) (omega arith) refl refl;
+                went = paid (σ₁ .rows) (σ₁ .made) (replaced r) (x .fine .shape) (λ w s q. q) (h .0, st) (used-put t (σ₁ .mark) (σ₁ .made) k (replaced r) still (x .fine .used)) (λ p. refl) (omega arith);
                 upto = λ i. let j = h .0 i in omega (arith, j);
                 stands = λ _. st;
               }
@@ -95,15 +105,15 @@ module _ (t : List Node) (ways : Ways) (ins reps : List ℕ) where
                 new = λ _. record {
                   inside = omega arith;
                   const = ap (λ (w : Node). w .kind) at;
-                  fits = subst (λ (w : Node). w .a < 2 ^ width (g .sort)) (sym at) (h .0);
-                  sort = subst (λ (w : Node). SortFor (w .sort) (g .sort)) (sym at) (h .2);
+                  fits = subst (λ (w : Node). w .a < 2 ^ width (g .sort)) (sym at) (subst (λ i. y < 2 ^ width i) (h .0) (h .1 .fits));
+                  sort = ap (λ (w : Node). w .sort) at ∙ h .0;
                 };
               } in
               let st′ : At t ways ins reps σ₂ r (nodeAt t k .sort) = subst (At t ways ins reps σ₂ r) same-sort st in
               let far : Below t k r = λ i. let o : ⊥ = omega arith in absurd o in
               record {
-                went = paid σ₂ (replaced r) (record { shape = shape-const t (σ₁ .rows) (σ₁ .made) (σ₁ .mark) (x .fine .shape) (constant s y) (h .1); books = x .fine .books; marked = x .fine .marked; fair = x .fine .fair; gained = x .fine .gained })
-                    (stands-const t (σ₁ .rows) (σ₁ .made) (constant s y)) (far, st′) (λ p. refl) (λ i. refl) (omega arith) refl refl;
+                went = paid (σ₂ .rows) (σ₂ .made) (replaced r) (shape-const t (σ₁ .rows) (σ₁ .made) (σ₁ .mark) (x .fine .shape) (constant s y) (h .1)) (stands-const t (σ₁ .rows) (σ₁ .made) (constant s y))
+                    (far, st′) (used-made t (σ₁ .mark) (σ₁ .made) k l still (x .fine .used)) (λ p. refl) (omega arith);
                 upto = λ i. let j = far i in omega (arith, j);
                 stands = λ _. st′;
               }
@@ -118,6 +128,7 @@ module _ (t : List Node) (ways : Ways) (ins reps : List ℕ) where
             fine = record {
               shape = shape-row t (σ₁ .rows) (σ₁ .made) (σ₁ .mark) (x .fine .shape) k nd l (subst (Alike nd) eg (r .0)) (subst (λ (w : Node). Refs t (σ₁ .rows) (σ₁ .made) k (operands nd) (operands w)) eg (r .1));
               books = x .fine .books;
+              used = x .fine .used;
               marked = x .fine .marked;
               fair = x .fine .fair;
               gained = x .fine .gained;
@@ -149,8 +160,12 @@ module _ (t : List Node) (ways : Ways) (ins reps : List ℕ) where
           go false = settled 0 0 σ₁ stays (omega arith) (omega arith) x tt
 
       -- ---- one, two, three operands
-      alike : (x y z : ℕ) → keptAs (g .kind) (with g x y z) ≡ keptAs (g .kind) g → Alike (with g x y z) g
-      alike x y z e = record { kind = refl; sort = refl; name = refl; kept = e }
+      -- the words that are not rewritten
+      abbrev Rests : Node → Type 0
+      Rests nd = (keptAs (g .kind) nd ≡ keptAs (g .kind) g) × (unusedAs (g .kind) nd ≡ unusedAs (g .kind) g)
+
+      alike : (x y z : ℕ) → Rests (with g x y z) → Alike (with g x y z) g
+      alike x y z e = record { kind = refl; sort = refl; name = refl; kept = e .0; unused = e .1 }
 
       after-row : (σ₁ : St) (nd : Node) (x s : ℕ) → At t ways ins reps σ₁ x s → At t ways ins reps (setRow σ₁ k nd) x s
       after-row σ₁ nd x s h = stands-row t (σ₁ .rows) (σ₁ .made) k nd l x s h
@@ -158,7 +173,7 @@ module _ (t : List Node) (ways : Ways) (ins reps : List ℕ) where
       operand-number : (σ₁ : St) → Fine t ways ins reps σ₁ → (x s : ℕ) → At t ways ins reps σ₁ x s → ConstFits t (σ₁ .rows) (σ₁ .made) (constOf (σ₁ .rows) x) s
       operand-number σ₁ f₁ x s h = operand-fits t (σ₁ .rows) (σ₁ .made) (σ₁ .mark) (f₁ .shape) legal x s h
 
-      unary-went : (fold : Option ℕ → Fold) → g .a < k → mayServe (nodeAt t (g .a)) ≡ true → ((x : ℕ) → keptAs (g .kind) (with g x (g .b) (g .c)) ≡ keptAs (g .kind) g)
+      unary-went : (fold : Option ℕ → Fold) → g .a < k → mayServe (nodeAt t (g .a)) ≡ true → ((x : ℕ) → Rests (with g x (g .b) (g .c)))
           → ((rows : ℕ → Node) (made x : ℕ) → Ref t rows made k x (g .a) → Refs t rows made k (operands (with g x (g .b) (g .c))) (operands g))
           → ((σ₁ : St) (x : ℕ) (cx : Option ℕ) → Fine t ways ins reps σ₁ → At t ways ins reps σ₁ x (nodeAt t (g .a) .sort) → ConstFits t (σ₁ .rows) (σ₁ .made) cx (nodeAt t (g .a) .sort) → Folds σ₁ (fold cx))
           → If (Visited t ways ins reps k σ) (unary t ways vis σ k g fold)
@@ -172,7 +187,7 @@ module _ (t : List Node) (ways : Ways) (ins reps : List ℕ) where
           (λ p h. settled 0 0 (p .0) _ (omega arith) (omega arith) (h .0) (ff (p .0) (p .1) (constOf (p .0 .rows) (p .1)) (h .0 .fine) (h .1) (operand-number (p .0) (h .0 .fine) (p .1) (nodeAt t (g .a) .sort) (h .1))))
 
       module _ (ha : g .a < k) (hb : g .b < k) (sa : mayServe (nodeAt t (g .a)) ≡ true) (sb : mayServe (nodeAt t (g .b)) ≡ true)
-          (kp : (x y : ℕ) → keptAs (g .kind) (with g x y (g .c)) ≡ keptAs (g .kind) g)
+          (kp : (x y : ℕ) → Rests (with g x y (g .c)))
           (rf : (rows : ℕ → Node) (made x y : ℕ) → Ref t rows made k x (g .a) → Ref t rows made k y (g .b) → Refs t rows made k (operands (with g x y (g .c))) (operands g)) where
         pub record Two (p : St × (ℕ × ℕ)) : Type 0 where
           pub here : Here 0 0 (p .0)
@@ -204,7 +219,7 @@ module _ (t : List Node) (ways : Ways) (ins reps : List ℕ) where
 
       -- ---- Ite
       module _ (ha : g .a < k) (hb : g .b < k) (hc : g .c < k) (sa : mayServe (nodeAt t (g .a)) ≡ true) (sb : mayServe (nodeAt t (g .b)) ≡ true) (sc : mayServe (nodeAt t (g .c)) ≡ true)
-          (kp : (x y z : ℕ) → keptAs (g .kind) (with g x y z) ≡ keptAs (g .kind) g)
+          (kp : (x y z : ℕ) → Rests (with g x y z))
           (rf : (rows : ℕ → Node) (made x y z : ℕ) → Ref t rows made k x (g .a) → Ref t rows made k y (g .b) → Ref t rows made k z (g .c) → Refs t rows made k (operands (with g x y z)) (operands g)) where
         visit3-went : If (λ (p : St × (ℕ × ℕ × ℕ)). Here 0 0 (p .0)) (visit3 vis σ k g)
         unfolding visit3
@@ -252,7 +267,7 @@ module _ (t : List Node) (ways : Ways) (ins reps : List ℕ) where
 
       -- ---- Next, Read, State
       next-went : g .a < k → g .b < k → mayServe (nodeAt t (g .a)) ≡ true → mayServe (nodeAt t (g .b)) ≡ true
-          → ((y : ℕ) → keptAs (g .kind) (with g (g .a) y (g .c)) ≡ keptAs (g .kind) g)
+          → ((y : ℕ) → Rests (with g (g .a) y (g .c)))
           → ((rows : ℕ → Node) (made y : ℕ) → Ref t rows made k (g .a) (g .a) → Ref t rows made k y (g .b) → Refs t rows made k (operands (with g (g .a) y (g .c))) (operands g))
           → If (Visited t ways ins reps k σ) (vis σ (g .a) >>= λ p. vis (p .0) (g .b) >>= λ q. settle t ways k (setRow (q .0) k (with g (g .a) (q .1) (g .c))) stays)
       next-went ha hb sa sb kp rf =
@@ -273,7 +288,7 @@ module _ (t : List Node) (ways : Ways) (ins reps : List ℕ) where
           looked : Here 0 (r .looked) (addTally σ₁ (r .looked) 0)
           looked =
               record {
-                fine = record { shape = x .fine .shape; books = passing (σ₁ .passed + 0) (strict-zero (ways .reading) (σ₁ .passed) (x .fine .books .clean)); marked = x .fine .marked; fair = omega (arith, x .fine .fair); gained = omega (arith, x .fine .gained) };
+                fine = record { shape = x .fine .shape; books = passing (σ₁ .passed + 0) (strict-zero (ways .reading) (σ₁ .passed) (x .fine .books .clean)); used = x .fine .used; marked = x .fine .marked; fair = omega (arith, x .fine .fair); gained = omega (arith, x .fine .gained) };
                 above = x .above;
                 later = x .later;
                 few = x .few;
@@ -289,6 +304,7 @@ module _ (t : List Node) (ways : Ways) (ins reps : List ℕ) where
                   fine = record {
                     shape = w .went .fine .shape;
                     books = passing (σ₁ .passed + r .unsettled) h;
+                    used = w .went .fine .used;
                     marked = w .went .fine .marked;
                     fair = omega (arith, x .fine .fair);
                     gained = omega (arith, x .fine .gained, credit-replaced (fee t) (length t) (σ₁ .mark) k v l (x .above k (omega arith) ∙ fresh!));
@@ -317,14 +333,14 @@ module _ (t : List Node) (ways : Ways) (ins reps : List ℕ) where
           (tally-strict (ways .reading) (σ₁ .passed) (σ₁ .rows) (length t) y m (x .fine .books .clean))
           (subst (λ s. FoldStands t (σ₁ .rows) (σ₁ .made) k s (foldFound (r .value))) (sym e) (found-fold t (ways .reading) (σ₁ .rows) (σ₁ .made) pt y (length t) k m b)) x
 
-      takeInput-went : (xs : List ℕ) → σ .inputs ≡ xs → g .kind ≡ State → operands g ≡ [] → If (Visited t ways ins reps k σ) (takeInput t ways σ k g xs)
+      takeInput-went : (xs : List ℕ) → σ .inputs ≡ xs → g .kind ≡ State → knownSort (g .sort) ≡ true → operands g ≡ [] → If (Visited t ways ins reps k σ) (takeInput t ways σ k g xs)
       unfolding settle takeInput
-      takeInput-went [] ei ks os = settled 0 0 σ stays (omega arith) (omega arith) (went-none t ways ins reps k 0 σ f₀) tt
-      takeInput-went (x ∷ xs) ei ks os =
+      takeInput-went [] ei ks kn os = settled 0 0 σ stays (omega arith) (omega arith) (went-none t ways ins reps k 0 σ f₀) tt
+      takeInput-went (x ∷ xs) ei ks kn os =
           cases (If (Visited t ways ins reps k σ)) (ways .dump (g .name)) (λ _. settled 0 0 σ stays (omega arith) (omega arith) (went-none t ways ins reps k 0 σ f₀) tt)
           (λ _. cases (If (Visited t ways ins reps k σ)) (eqb (g .sort) 3) (λ _. tt)
           (λ n. cases (If (Visited t ways ins reps k σ)) (fits (g .sort) x)
-          (λ u. held (settled 0 0 σ (make (g .sort) x) (omega arith) (omega arith) (went-none t ways ins reps k 0 σ f₀) (own-fold t (σ .rows) (σ .made) (f₀ .shape .shares) k (g .sort) x (eqb-false (g .sort) 3 n) (ltb-true x (2 ^ width (g .sort)) u))))
+          (λ u. held (settled 0 0 σ (make (g .sort) x) (omega arith) (omega arith) (went-none t ways ins reps k 0 σ f₀) (own-fold t (σ .rows) (σ .made) (f₀ .shape .shares) k (g .sort) x kn (eqb-false (g .sort) 3 n) (ltb-true x (2 ^ width (g .sort)) u))))
           (λ _. tt)))
         where
           others : All (λ h. h .state ≢ k) (σ .held)
@@ -337,6 +353,7 @@ module _ (t : List Node) (ways : Ways) (ins reps : List ℕ) where
                 went = record {
                   fine = record {
                     shape = v .went .fine .shape;
+                    used = v .went .fine .used;
                     fair = v .went .fine .fair;
                     gained = v .went .fine .gained;
                     books = books-held t (ways .reading) ins reps (σ .passed) (σ .inputs) (σ .replies) (σ .asked) (σ .held) (v .went .fine .books) x xs (record { state = k; by = newNumber t ways σ }) ei
@@ -362,8 +379,8 @@ module _ (t : List Node) (ways : Ways) (ins reps : List ℕ) where
           settled (mk Const s a b c nm) eg 0 0 σ _ (omega arith) (omega arith) (went-none t ways ins reps k 0 σ f₀) (const-fold t (σ .rows) (σ .made) (f₀ .shape .shares) k s a)
       process-went Read eg g =
           let nd : Node = mk Read s a b c nm in
-          if-bind (Two nd eg (g .before .0) (g .before .1 .0) (g .serve .0) (g .serve .1 .0) (λ x y. refl) (λ rows made x y rx ry. (rx, (ry, tt)))) (Visited t ways ins reps k σ) (visit2 vis σ k nd) _
-          (visit2-went nd eg (g .before .0) (g .before .1 .0) (g .serve .0) (g .serve .1 .0) (λ x y. refl) (λ rows made x y rx ry. (rx, (ry, tt))))
+          if-bind (Two nd eg (g .before .0) (g .before .1 .0) (g .serve .0) (g .serve .1 .0) (λ x y. (refl, refl)) (λ rows made x y rx ry. (rx, (ry, tt)))) (Visited t ways ins reps k σ) (visit2 vis σ k nd) _
+          (visit2-went nd eg (g .before .0) (g .before .1 .0) (g .serve .0) (g .serve .1 .0) (λ x y. (refl, refl)) (λ rows made x y rx ry. (rx, (ry, tt))))
           (λ p x. forward-went nd eg (p .0) (p .1 .0) (constOf (p .0 .rows) (p .1 .1)) read-fee (eqb-true s 2 (g .sorts .0)) (x .first .0) (x .here))
         where
           read-fee : writes t ≤ fee t k
@@ -371,36 +388,36 @@ module _ (t : List Node) (ways : Ways) (ins reps : List ℕ) where
       process-went Write eg g =
           let nd : Node = mk Write s a b c nm in
           if-bind (λ (p : St × (ℕ × ℕ × ℕ)). Went t ways ins reps k 0 0 σ (p .0)) (Visited t ways ins reps k σ) (visit3 vis σ k nd) _
-          (visit3-went nd eg (g .before .0) (g .before .1 .0) (g .before .1 .1 .0) (g .serve .0) (g .serve .1 .0) (g .serve .1 .1 .0) (λ x y z. refl) (λ rows made x y z rx ry rz. (rx, (ry, (rz, tt)))))
+          (visit3-went nd eg (g .before .0) (g .before .1 .0) (g .before .1 .1 .0) (g .serve .0) (g .serve .1 .0) (g .serve .1 .1 .0) (λ x y z. (refl, refl)) (λ rows made x y z rx ry rz. (rx, (ry, (rz, tt)))))
           (λ p x. settled nd eg 0 0 (p .0) stays (omega arith) (omega arith) x tt)
       process-went (Word op) eg g =
-          binary-went (mk (Word op) s a b c nm) eg (g .before .0) (g .before .1 .0) (g .serve .0) (g .serve .1 .0) (λ x y. refl) (λ rows made x y rx ry. (rx, (ry, tt)))
-          0 (λ x y. foldWords (compute (ways .reading) op)) quiet (omega arith)
+          binary-went (mk (Word op) s a b c nm) eg (g .before .0) (g .before .1 .0) (g .serve .0) (g .serve .1 .0) (λ x y. (refl, refl)) (λ rows made x y rx ry. (rx, (ry, tt)))
+          0 (λ x y. foldWords s (compute (ways .reading) op)) quiet (omega arith)
           (λ p x cx cy fx fy. words-fold t (p .0 .rows) (p .0 .made) (x .here .fine .shape .shares) k s (ways .reading) op cx cy (eqb-true s 2 (g .sorts .0)) (subst (ConstFits t (p .0 .rows) (p .0 .made) cx) (eqb-true (nodeAt t a .sort) 2 (g .sorts .1 .0)) fx))
           (λ σ₁. quiet-asks t ways ins reps k s 0 σ₁)
       process-went Ult eg g =
           let e : s ≡ 1 = eqb-true s 1 (g .sorts .0) in
-          binary-went (mk Ult s a b c nm) eg (g .before .0) (g .before .1 .0) (g .serve .0) (g .serve .1 .0) (λ x y. refl) (λ rows made x y rx ry. (rx, (ry, tt)))
+          binary-went (mk Ult s a b c nm) eg (g .before .0) (g .before .1 .0) (g .serve .0) (g .serve .1 .0) (λ x y. (refl, refl)) (λ rows made x y rx ry. (rx, (ry, tt)))
           2 (λ x y. foldTest (length t) less) _ (omega arith) (λ p x cx cy fx fy. test-fold t (p .0 .rows) (p .0 .made) (x .here .fine .shape .shares) k s less cx cy e)
           (λ σ₁. bit-asks t ways ins reps k s 0 σ₁ quiet e (quiet-asks t ways ins reps k s 0 σ₁))
       process-went Ext eg g =
-          unary-went (mk Ext s a b c nm) eg foldExt (g .before .0) (g .serve .0) (λ x. refl) (λ rows made x r. (r, tt))
+          unary-went (mk Ext s a b c nm) eg (foldExt s) (g .before .0) (g .serve .0) (λ x. (refl, refl)) (λ rows made x r. (r, tt))
           (λ σ₁ x cx f₁ h fx. ext-fold t (σ₁ .rows) (σ₁ .made) (f₁ .shape .shares) k s (nodeAt t a .sort) cx (eqb-true s 2 (g .sorts .0)) fx)
       process-went Ite eg g =
           let nd : Node = mk Ite s a b c nm in
           operand nd eg (Visited t ways ins reps k σ) σ a _ (g .before .0) (g .serve .0) (went-none t ways ins reps k 0 σ f₀)
-          (λ p x lt r. iteOn-went nd eg (g .before .0) (g .before .1 .0) (g .before .1 .1 .0) (g .serve .0) (g .serve .1 .0) (g .serve .1 .1 .0) (λ x y z. refl) (λ rows made x y z rx ry rz. (rx, (ry, (rz, tt))))
+          (λ p x lt r. iteOn-went nd eg (g .before .0) (g .before .1 .0) (g .before .1 .1 .0) (g .serve .0) (g .serve .1 .0) (g .serve .1 .1 .0) (λ x y z. (refl, refl)) (λ rows made x y z rx ry rz. (rx, (ry, (rz, tt))))
           (p .0) (p .1) (branch (constOf (p .0 .rows) (p .1))) (eqb-true _ 1 (g .sorts .0)) (eqb-true _ s (g .sorts .1 .0)) (eqb-true _ s (g .sorts .1 .1 .0)) r x)
       process-went Eq eg g =
           let e : s ≡ 1 = eqb-true s 1 (g .sorts .0) in
-          binary-went (mk Eq s a b c nm) eg (g .before .0) (g .before .1 .0) (g .serve .0) (g .serve .1 .0) (λ x y. refl) (λ rows made x y rx ry. (rx, (ry, tt)))
+          binary-went (mk Eq s a b c nm) eg (g .before .0) (g .before .1 .0) (g .serve .0) (g .serve .1 .0) (λ x y. (refl, refl)) (λ rows made x y rx ry. (rx, (ry, tt)))
           2 (foldEq (length t)) _ (omega arith) (λ p x cx cy fx fy. eq-fold t (p .0 .rows) (p .0 .made) (x .here .fine .shape .shares) k s (p .1 .0) (p .1 .1) cx cy e)
           (λ σ₁. bit-asks t ways ins reps k s 0 σ₁ quiet e (quiet-asks t ways ins reps k s 0 σ₁))
       process-went And eg g =
           let ea : nodeAt t a .sort ≡ s = eqb-true (nodeAt t a .sort) s (g .sorts .1 .0) in
           let eb : nodeAt t b .sort ≡ s = eqb-true (nodeAt t b .sort) s (g .sorts .1 .1 .0) in
-          binary-went (mk And s a b c nm) eg (g .before .0) (g .before .1 .0) (g .serve .0) (g .serve .1 .0) (λ x y. refl) (λ rows made x y rx ry. (rx, (ry, tt)))
-          2 (foldAnd (ones s)) _ (omega arith)
+          binary-went (mk And s a b c nm) eg (g .before .0) (g .before .1 .0) (g .serve .0) (g .serve .1 .0) (λ x y. (refl, refl)) (λ rows made x y rx ry. (rx, (ry, tt)))
+          2 (foldAnd s) _ (omega arith)
           (λ p x cx cy fx fy.
           let fits : Option ℕ → ℕ → Type 0 = ConstFits t (p .0 .rows) (p .0 .made) in
           and-fold t (p .0 .rows) (p .0 .made) (x .here .fine .shape .shares) k s (p .1 .0) (p .1 .1) cx cy (g .known) (eqb-false s 3 (not-true _ (g .sorts .0))) (x .first .0) (x .second .0)
@@ -409,29 +426,30 @@ module _ (t : List Node) (ways : Ways) (ins reps : List ℕ) where
       process-went Or eg g =
           let ea : nodeAt t a .sort ≡ s = eqb-true (nodeAt t a .sort) s (g .sorts .1 .0) in
           let eb : nodeAt t b .sort ≡ s = eqb-true (nodeAt t b .sort) s (g .sorts .1 .1 .0) in
-          binary-went (mk Or s a b c nm) eg (g .before .0) (g .before .1 .0) (g .serve .0) (g .serve .1 .0) (λ x y. refl) (λ rows made x y rx ry. (rx, (ry, tt)))
-          0 (foldOr (ones s)) quiet (omega arith)
+          binary-went (mk Or s a b c nm) eg (g .before .0) (g .before .1 .0) (g .serve .0) (g .serve .1 .0) (λ x y. (refl, refl)) (λ rows made x y rx ry. (rx, (ry, tt)))
+          0 (foldOr s) quiet (omega arith)
           (λ p x cx cy fx fy.
           let fits : Option ℕ → ℕ → Type 0 = ConstFits t (p .0 .rows) (p .0 .made) in
           or-fold t (p .0 .rows) (p .0 .made) (x .here .fine .shape .shares) k s (p .1 .0) (p .1 .1) cx cy (g .known) (eqb-false s 3 (not-true _ (g .sorts .0))) (x .first .0) (x .second .0)
           (subst (At t ways ins reps (p .0) (p .1 .0)) ea (x .first .1)) (subst (At t ways ins reps (p .0) (p .1 .1)) eb (x .second .1)) (subst (fits cx) ea fx) (subst (fits cy) eb fy))
           (λ σ₁. quiet-asks t ways ins reps k s 0 σ₁)
       process-went Not eg g =
-          unary-went (mk Not s a b c nm) eg (foldNot (length t) s) (g .before .0) (g .serve .0) (λ x. refl) (λ rows made x r. (r, tt))
-          (λ σ₁ x cx f₁ h fx. not-fold t (σ₁ .rows) (σ₁ .made) (f₁ .shape .shares) k s cx (eqb-false s 3 (not-true _ (g .sorts .0))))
+          unary-went (mk Not s a b c nm) eg (foldNot (length t) s) (g .before .0) (g .serve .0) (λ x. (refl, refl)) (λ rows made x r. (r, tt))
+          (λ σ₁ x cx f₁ h fx. not-fold t (σ₁ .rows) (σ₁ .made) (f₁ .shape .shares) k s cx (g .known) (eqb-false s 3 (not-true _ (g .sorts .0))))
       process-went State eg g = go (eqb b 1) refl (g .before) (g .serve)
         where
           go : (q : Bool) → eqb b 1 ≡ q → All (λ x. x < k) (cond q (a ∷ []) []) → All (λ x. mayServe (nodeAt t x) ≡ true) (cond q (a ∷ []) [])
               → If (Visited t ways ins reps k σ) (elim q [ true ↦ unary t ways vis σ k (mk State s a b c nm) (λ x. stays) | false ↦ takeInput t ways σ k (mk State s a b c nm) (σ .inputs) ])
           go true q h v =
-              unary-went (mk State s a b c nm) eg (λ x. stays) (h .0) (v .0) (λ x. refl)
+              unary-went (mk State s a b c nm) eg (λ x. stays) (h .0) (v .0)
+              (λ x. (refl, ap (λ z. cond z (c ∷ []) (x ∷ b ∷ c ∷ [])) q ∙ sym (ap (λ z. cond z (c ∷ []) (a ∷ b ∷ c ∷ [])) q)))
               (λ rows made x r. subst (λ z. Refs t rows made k (cond z (x ∷ []) []) (cond z (a ∷ []) [])) (sym q) (r, tt)) (λ σ₁ x cx f₁ h fx. tt)
-          go false q h v = takeInput-went (mk State s a b c nm) eg (σ .inputs) refl refl (ap (λ z. cond z (a ∷ []) []) q)
+          go false q h v = takeInput-went (mk State s a b c nm) eg (σ .inputs) refl refl (g .known) (ap (λ z. cond z (a ∷ []) []) q)
       process-went Next eg g =
-          next-went (mk Next s a b c nm) eg (g .before .0) (g .before .1 .0) (g .serve .0) (g .serve .1 .0) (λ y. refl) (λ rows made y ra ry. (ra, (ry, tt)))
+          next-went (mk Next s a b c nm) eg (g .before .0) (g .before .1 .0) (g .serve .0) (g .serve .1 .0) (λ y. (refl, refl)) (λ rows made y ra ry. (ra, (ry, tt)))
       process-went Input eg g = settled (mk Input s a b c nm) eg 0 0 σ stays (omega arith) (omega arith) (went-none t ways ins reps k 0 σ f₀) tt
       process-went Bad eg g =
-          unary-went (mk Bad s a b c nm) eg (λ x. stays) (g .before .0) (g .serve .0) (λ x. refl) (λ rows made x r. (r, tt)) (λ σ₁ x cx f₁ h fx. tt)
+          unary-went (mk Bad s a b c nm) eg (λ x. stays) (g .before .0) (g .serve .0) (λ x. (refl, refl)) (λ rows made x r. (r, tt)) (λ σ₁ x cx f₁ h fx. tt)
 
   -- ---- visiting
   module _ (legal : AllLegal t) where

@@ -160,7 +160,7 @@ module _ (how : Reading) (t : List Node) (k : ℕ) (u : ℕ → Value) (own : Va
   at : (x s : ℕ) → x < k → eqb (nodeAt t x .sort) s ≡ true → Fits s (u x)
   at x s l e = subst (λ i. Fits i (u x)) (eqb-true (nodeAt t x .sort) s e) (h x l)
 
-  pub meaning-fits : (K : Kind) (nd : Node) → All (λ x. x < k) (operandsAs K nd) → All (λ b. b ≡ true) (sortedAs t (λ x. nodeAt t x .sort) K nd)
+  pub meaning-fits : (K : Kind) (nd : Node) → All (λ x. x < k) (operandsAs K nd) → All (λ b. b ≡ true) (sortedAs (nodeAt t) K nd)
       → ((is State nd || is Input nd) ≡ true → Fits (nd .sort) own) → nd .kind ≡ K → Fits (nd .sort) (meaning how K u own nd)
   meaning-fits Const nd b g f q = (eqb-false (nd .sort) 3 (not-true _ (g .0)), ltb-true (nd .a) (2 ^ width (nd .sort)) (g .1 .0))
   meaning-fits Read nd b g f q = word-fits (nd .sort) _ (eqb-true (nd .sort) 2 (g .0)) (mem-fits 3 (u (nd .a)) refl (at (nd .a) 3 (b .0) (g .1 .0)) (num (u (nd .b))))

@@ -13,7 +13,7 @@ use lib.Dec.{eqb}
 use lib.Bits.{bitAnd, bitOr}
 use borrow.Author.Tests.{eqb-true, eqb-false, eq-eqb, not-true}
 use Rattle.btor.specs.Operators.{compute, complement, bit, less}
-use Rattle.btor.specs.Sorts.{width, ones}
+use Rattle.btor.specs.Sorts.{width}
 use Rattle.rules.specs.Lists.{All}
 use Rattle.rules.specs.Refusal.{Out, refused, done}
 use Rattle.rules.specs.Table.{Kind, Const, Read, Write, Word, Ult, Ext, Ite, Eq, And, Or, Not, State, Next, Input, Bad, Node, with, nodeAt, fits}
@@ -228,9 +228,9 @@ module _ (t : List Node) (ways : Ways) (v : ℕ → Value) where
           (λ σ₁ xyz. settle-ok t ways v (P × Unit {0}) k σ₁ stays (λ p i. tt))
       process-at (Word op) kd e g =
           let row : (x y : ℕ) → v x ≡ v a → v y ≡ v b → number (compute (ways .reading) op (num (v x)) (num (v y))) ≡ v k = λ x y hx hy. ap₂ (λ p q. number (compute (ways .reading) op (num p) (num q))) hx hy ∙ e in
-          binary-ok P σ k (mk (Word op) s a b c nm) l kd (λ x y. foldWords (compute (ways .reading) op)) quiet (inside (g .before .0) l) (inside (g .before .1 .0) l)
+          binary-ok P σ k (mk (Word op) s a b c nm) l kd (λ x y. foldWords s (compute (ways .reading) op)) quiet (inside (g .before .0) l) (inside (g .before .1 .0) l)
           (λ x y hx hy. record { worth! = row x y hx hy; stored = λ z. word-not-write op z })
-          (λ x y cx cy hx hy kx ky. foldWords-ok v (compute (ways .reading) op) cx cy (v x) (v y) (v k) kx ky (row x y hx hy))
+          (λ x y cx cy hx hy kx ky. foldWords-ok v s (compute (ways .reading) op) cx cy (v x) (v y) (v k) kx ky (row x y hx hy))
           (λ P′ σ₁. quiet-ok t ways v P′ (v k) σ₁)
       process-at Ult kd e g =
           let row : (x y : ℕ) → v x ≡ v a → v y ≡ v b → number (bit (less (num (v x)) (num (v y)))) ≡ v k = λ x y hx hy. ap₂ (λ p q. number (bit (less (num p) (num q)))) hx hy ∙ e in
@@ -239,9 +239,9 @@ module _ (t : List Node) (ways : Ways) (v : ℕ → Value) where
           (λ x y cx cy hx hy kx ky. foldTest-ok v (length t) n-false n-true less cx cy (v x) (v y) (v k) kx ky (row x y hx hy))
           (λ P′ σ₁. askBit-ok t ways v n-false n-true (ways .replyCount) P′ k quiet (quiet-ok t ways v P′ (v k)) σ₁)
       process-at Ext kd e g =
-          unary-ok P σ k (mk Ext s a b c nm) l kd foldExt (inside (g .before .0) l)
+          unary-ok P σ k (mk Ext s a b c nm) l kd (foldExt s) (inside (g .before .0) l)
           (λ x hx. record { worth! = ap (λ p. number (num p)) hx ∙ e; stored = λ z. no z })
-          (λ x cx hx kx. foldExt-ok v cx (v x) (v k) kx (ap (λ p. number (num p)) hx ∙ e))
+          (λ x cx hx kx. foldExt-ok v s cx (v x) (v k) kx (ap (λ p. number (num p)) hx ∙ e))
       process-at Ite kd e g =
           let nd : Node = mk Ite s a b c nm in
           bind t ways v P σ (λ x. v x ≡ v a) (λ r. v r ≡ v k) (vis σ a) _ (vis-ok P σ a (inside (g .before .0) l))
@@ -261,7 +261,7 @@ module _ (t : List Node) (ways : Ways) (v : ℕ → Value) where
           let ne : s ≢ 3 = eqb-false s 3 (not-true _ (g .sorts .0)) in
           let la : a < length t = inside (g .before .0) l in
           let lb : b < length t = inside (g .before .1 .0) l in
-          binary-ok P σ k (mk And s a b c nm) l kd (foldAnd (ones s)) (askAnd (ways .replyCount) (length t) s k) la lb
+          binary-ok P σ k (mk And s a b c nm) l kd (foldAnd s) (askAnd (ways .replyCount) (length t) s k) la lb
           (λ x y hx hy. record { worth! = row x y hx hy; stored = λ z. no z })
           (λ x y cx cy hx hy kx ky. foldAnd-ok v s x y cx cy (v k) kx ky (num-at a s x ne la (g .sorts .1 .0) hx) (num-at b s y ne lb (g .sorts .1 .1 .0) hy) (row x y hx hy))
           (λ P′ σ₁. askAnd-ok t ways v n-false n-true (ways .replyCount) P′ k s σ₁)
@@ -270,7 +270,7 @@ module _ (t : List Node) (ways : Ways) (v : ℕ → Value) where
           let ne : s ≢ 3 = eqb-false s 3 (not-true _ (g .sorts .0)) in
           let la : a < length t = inside (g .before .0) l in
           let lb : b < length t = inside (g .before .1 .0) l in
-          binary-ok P σ k (mk Or s a b c nm) l kd (foldOr (ones s)) quiet la lb
+          binary-ok P σ k (mk Or s a b c nm) l kd (foldOr s) quiet la lb
           (λ x y hx hy. record { worth! = row x y hx hy; stored = λ z. no z })
           (λ x y cx cy hx hy kx ky. foldOr-ok v s x y cx cy (v k) kx ky (num-at a s x ne la (g .sorts .1 .0) hx) (num-at b s y ne lb (g .sorts .1 .1 .0) hy) (row x y hx hy))
           (λ P′ σ₁. quiet-ok t ways v P′ (v k) σ₁)

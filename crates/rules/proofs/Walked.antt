@@ -51,7 +51,7 @@ module _ (t : List Node) (ways : Ways) (ins reps : List ℕ) (legal : AllLegal t
       let q = y (p .fine) in
       record { fine = q .fine; few = omega (arith, p .few, q .few); asks = omega (arith, p .asks, q .asks); looks = omega (arith, p .looks, q .looks) }
 
-  -- ---- the sequentials
+  -- ---- the sequentials, judged before a constant is made
   at-most : (p : ℕ) (m : Mark) → ifReplaced p m ≤ p
   at-most p fresh = omega arith
   at-most p kept = omega arith
@@ -61,8 +61,8 @@ module _ (t : List Node) (ways : Ways) (ins reps : List ℕ) (legal : AllLegal t
   has-init : {x : ℕ} (os : List ℕ) → os ≡ x ∷ [] → os ≡ [] → ⊥
   has-init os e z = let o : _≡_ {A = ℕ} 0 1 = cc in omega arith
 
-  drop-walked : (σ : St) (s : ℕ) → Sequential t s → Goes 0 σ (dropNext t σ (nodeAt t s))
-  drop-walked σ s h = λ f.
+  drop-walked : (σ : St) (s : ℕ) → σ .made ≡ 0 → Sequential t s → Goes 0 σ (dropNext t σ (nodeAt t s))
+  drop-walked σ s none! h = λ f.
       let q = state-ok t s legal h in
       let k : ℕ = nodeAt t s .a in
       let r : ℕ = nodeAt t k .a in
@@ -72,6 +72,7 @@ module _ (t : List Node) (ways : Ways) (ins reps : List ℕ) (legal : AllLegal t
           shape = shape-mark t (σ .rows) (σ .made) (σ .mark) (f .shape) k (replaced r)
               ((λ _. i .before), subst (Stands t (σ .rows) (σ .made) r) (i .sort) (stands-itself t (σ .rows) (σ .made) r (omega (arith, i .before, q .inside)) (i .serve)));
           books = f .books;
+          used = λ i u w. let o : ⊥ = omega (arith, none!) in absurd o;
           marked = marked-put t (σ .mark) k (replaced r) (σ .held) (all-map (Took t) (λ g. g .state ≢ k) (λ g w z. has-init (operands (nodeAt t k)) (init-operand (nodeAt t k) (q .state) (h .init)) (ap (λ j. operands (nodeAt t j)) (sym z) ∙ w .bare)) (σ .held) (f .books .took)) (f .marked);
           fair = f .fair;
           gained = omega (arith, f .gained, credit-put (fee t) (length t) (σ .mark) k (replaced r) (λ p. at-most p (σ .mark k)));
@@ -85,14 +86,14 @@ module _ (t : List Node) (ways : Ways) (ins reps : List ℕ) (legal : AllLegal t
     pub goes : Goes 0 σ (r .0)
     pub kept : All (λ s. s < length t) (r .1)
 
-  pub sequentials-walked : (σ : St) (ss : List ℕ) → All (Sequential t) ss → Judged σ (judgeSequentials t σ ss)
+  pub sequentials-walked : (σ : St) (ss : List ℕ) → σ .made ≡ 0 → All (Sequential t) ss → Judged σ (judgeSequentials t σ ss)
   unfolding judgeSequentials
-  sequentials-walked σ [] h = record { goes = none-walked 0 σ; kept = tt }
-  sequentials-walked σ (s ∷ ss) h =
+  sequentials-walked σ [] none! h = record { goes = none-walked 0 σ; kept = tt }
+  sequentials-walked σ (s ∷ ss) none! h =
       let d = dropNext t σ (nodeAt t s) in
       cases (Judged σ) (trivial t (nodeAt t s))
-      (λ _. let g = sequentials-walked d ss (h .1) in record { goes = both-walked 0 0 σ d (judgeSequentials t d ss .0) (drop-walked σ s (h .0)) (g .goes); kept = g .kept })
-      (λ _. let g = sequentials-walked σ ss (h .1) in record { goes = g .goes; kept = (h .0 .inside, g .kept) })
+      (λ _. let g = sequentials-walked d ss none! (h .1) in record { goes = both-walked 0 0 σ d (judgeSequentials t d ss .0) (drop-walked σ s none! (h .0)) (g .goes); kept = g .kept })
+      (λ _. let g = sequentials-walked σ ss none! (h .1) in record { goes = g .goes; kept = (h .0 .inside, g .kept) })
 
   -- ---- visits
   top-walked : (σ : St) (k : ℕ) → k < length t → If (λ p. Goes 0 σ (p .0)) (visitTop t ways σ k)
@@ -194,14 +195,14 @@ module _ (m : Model) (how : Mode) (wf : WellFormed m) where
   begin = start (m .table) (m .inputs) (m .replies)
 
   begin-fine : FineEnd begin
-  begin-fine = record { shape = start-shape (m .table) (wf .nodes) (λ k. fresh) (λ k. refl); books = start-books (m .table) (how .reading) (m .inputs) (m .replies); marked = tt; fair = omega arith; gained = omega arith }
+  begin-fine = record { shape = start-shape (m .table) (wf .nodes) (λ k. fresh) (λ k. refl); books = start-books (m .table) (how .reading) (m .inputs) (m .replies); used = λ r l u. let o : ⊥ = omega arith in absurd o; marked = tt; fair = omega arith; gained = omega arith }
 
   fold-walked : If (λ f. Goes! beyond begin (f .state)) (fold m how)
   unfolding fold
   fold-walked =
       let t : List Node = m .table in
       let j = judgeSequentials t begin (m .sequentials) in
-      let g = sequentials-walked t (waysOf m how) (m .inputs) (m .replies) (wf .nodes) begin (m .sequentials) (wf .sequentials) in
+      let g = sequentials-walked t (waysOf m how) (m .inputs) (m .replies) (wf .nodes) begin (m .sequentials) refl (wf .sequentials) in
       if-bind (Goes! 0 (j .0)) (λ f. Goes! beyond begin (f .state)) (visitAll t (waysOf m how) (j .0) (j .1)) _
       (all-walked t (waysOf m how) (m .inputs) (m .replies) (wf .nodes) (j .0) (j .1) (g .kept))
       (λ σ x. if-map (λ f. Goes! beyond σ (f .state)) (λ f. Goes! beyond begin (f .state)) (foldBads m how (how .oneQuery) σ (j .1))

@@ -20,7 +20,7 @@ use Rattle.btor.proofs.Agreement.{cases}
 use Rattle.rules.proofs.Base.{If}
 use Rattle.rules.proofs.Budget.{credit}
 use Rattle.rules.proofs.Standing.{UpTo, Stands}
-use Rattle.rules.proofs.Shape.{Shape, Books, Marked, books-asked}
+use Rattle.rules.proofs.Shape.{Shape, Books, Used, Marked, books-asked}
 
 -- a Read pays for one walk
 abbrev pub fee : List Node → ℕ → ℕ
@@ -30,6 +30,7 @@ module _ (t : List Node) (ways : Ways) (ins reps : List ℕ) where
   pub record Fine (σ : St) : Type 0 where
     pub shape : Shape t (σ .rows) (σ .made) (σ .mark)
     pub books : Books t (ways .reading) ins reps (σ .passed) (σ .inputs) (σ .replies) (σ .asked) (σ .held)
+    pub used : Used t (σ .mark) (σ .made)
     pub marked : Marked t (σ .mark) (σ .held)
     pub fair : σ .passed ≤ σ .looked
     pub gained : σ .passed ≤ credit (fee t) (length t) (σ .mark)
@@ -76,7 +77,7 @@ module _ (t : List Node) (ways : Ways) (ins reps : List ℕ) where
       (λ _.
       let w = question q x y bs (firstReply (σ .replies)) in
       record {
-        fine = record { shape = f .shape; books = books-asked t (ways .reading) ins reps (σ .passed) (σ .inputs) (σ .replies) (σ .asked) (σ .held) (f .books) w refl; marked = f .marked; fair = f .fair; gained = f .gained };
+        fine = record { shape = f .shape; books = books-asked t (ways .reading) ins reps (σ .passed) (σ .inputs) (σ .replies) (σ .asked) (σ .held) (f .books) w refl; used = f .used; marked = f .marked; fair = f .fair; gained = f .gained };
         above = λ i h. refl;
         later = λ z s h. h;
         few = omega arith;

@@ -82,7 +82,7 @@ NoonCases =
     × Gives Sll 1 64 0
     × UltAtEquality
     × Tells (row 1 11 0 0 0 0 ∷ row 18 11 0 0 0 0 ∷ row 21 11 0 0 0 1 ∷ row 15 1 1 2 0 0 ∷ row 22 1 3 0 0 0 ∷ []) (oneMade 11 255) (only 1 7) 0 0
-    × Tells (onTwo 16 11 3 5) (oneMade 2 1) (only 2 8) 0 0
+    × Tells (onTwo 16 11 3 5) (oneMade 11 1) (only 2 8) 0 0
     × PastUnsettled
 
 -- ---- the example

@@ -72,29 +72,33 @@ rule4 bound nd = every (λ x. ltb x bound) (operands nd)
 abbrev pub mayServe : Node → Bool
 mayServe nd = not (is Next nd || is Bad nd)
 
--- the table of kinds: s x is the sort of node x
-abbrev pub sortedAs : List Node → (ℕ → ℕ) → Kind → Node → List Bool
-sortedAs t s Const nd = not (eqb (nd .sort) 3) ∷ fits (nd .sort) (nd .a) ∷ []
-sortedAs t s Read nd = eqb (nd .sort) 2 ∷ eqb (s (nd .a)) 3 ∷ eqb (s (nd .b)) 2 ∷ []
-sortedAs t s Write nd = eqb (nd .sort) 3 ∷ eqb (s (nd .a)) 3 ∷ eqb (s (nd .b)) 2 ∷ eqb (s (nd .c)) 2 ∷ []
-sortedAs t s (Word op) nd = eqb (nd .sort) 2 ∷ eqb (s (nd .a)) 2 ∷ eqb (s (nd .b)) 2 ∷ []
-sortedAs t s Ult nd = eqb (nd .sort) 1 ∷ eqb (s (nd .a)) (s (nd .b)) ∷ not (eqb (s (nd .a)) 3) ∷ []
-sortedAs t s Ext nd = eqb (nd .sort) 2 ∷ eqb (s (nd .a)) (nd .b) ∷ not (eqb (s (nd .a)) 3) ∷ []
-sortedAs t s Ite nd = eqb (s (nd .a)) 1 ∷ eqb (s (nd .b)) (nd .sort) ∷ eqb (s (nd .c)) (nd .sort) ∷ []
-sortedAs t s Eq nd = eqb (nd .sort) 1 ∷ eqb (s (nd .a)) (s (nd .b)) ∷ not (eqb (s (nd .a)) 3) ∷ []
-sortedAs t s And nd = not (eqb (nd .sort) 3) ∷ eqb (s (nd .a)) (nd .sort) ∷ eqb (s (nd .b)) (nd .sort) ∷ []
-sortedAs t s Or nd = not (eqb (nd .sort) 3) ∷ eqb (s (nd .a)) (nd .sort) ∷ eqb (s (nd .b)) (nd .sort) ∷ []
-sortedAs t s Not nd = not (eqb (nd .sort) 3) ∷ eqb (s (nd .a)) (nd .sort) ∷ []
-sortedAs t s State nd = cond (eqb (nd .b) 1) (eqb (s (nd .a)) (nd .sort) ∷ []) []
-sortedAs t s Next nd = is State (nodeAt t (nd .a)) ∷ eqb (s (nd .a)) (nd .sort) ∷ eqb (s (nd .b)) (nd .sort) ∷ []
-sortedAs t s Input nd = []
-sortedAs t s Bad nd = eqb (nd .sort) 1 ∷ eqb (s (nd .a)) 1 ∷ []
+-- the table of kinds; at x is node x
+abbrev pub sortedAs : (ℕ → Node) → Kind → Node → List Bool
+sortedAs at Const nd = not (eqb (nd .sort) 3) ∷ fits (nd .sort) (nd .a) ∷ []
+sortedAs at Read nd = eqb (nd .sort) 2 ∷ eqb (at (nd .a) .sort) 3 ∷ eqb (at (nd .b) .sort) 2 ∷ []
+sortedAs at Write nd = eqb (nd .sort) 3 ∷ eqb (at (nd .a) .sort) 3 ∷ eqb (at (nd .b) .sort) 2 ∷ eqb (at (nd .c) .sort) 2 ∷ []
+sortedAs at (Word op) nd = eqb (nd .sort) 2 ∷ eqb (at (nd .a) .sort) 2 ∷ eqb (at (nd .b) .sort) 2 ∷ []
+sortedAs at Ult nd = eqb (nd .sort) 1 ∷ eqb (at (nd .a) .sort) (at (nd .b) .sort) ∷ not (eqb (at (nd .a) .sort) 3) ∷ []
+sortedAs at Ext nd = eqb (nd .sort) 2 ∷ eqb (at (nd .a) .sort) (nd .b) ∷ not (eqb (at (nd .a) .sort) 3) ∷ []
+sortedAs at Ite nd = eqb (at (nd .a) .sort) 1 ∷ eqb (at (nd .b) .sort) (nd .sort) ∷ eqb (at (nd .c) .sort) (nd .sort) ∷ []
+sortedAs at Eq nd = eqb (nd .sort) 1 ∷ eqb (at (nd .a) .sort) (at (nd .b) .sort) ∷ not (eqb (at (nd .a) .sort) 3) ∷ []
+sortedAs at And nd = not (eqb (nd .sort) 3) ∷ eqb (at (nd .a) .sort) (nd .sort) ∷ eqb (at (nd .b) .sort) (nd .sort) ∷ []
+sortedAs at Or nd = not (eqb (nd .sort) 3) ∷ eqb (at (nd .a) .sort) (nd .sort) ∷ eqb (at (nd .b) .sort) (nd .sort) ∷ []
+sortedAs at Not nd = not (eqb (nd .sort) 3) ∷ eqb (at (nd .a) .sort) (nd .sort) ∷ []
+sortedAs at State nd = cond (eqb (nd .b) 1) (eqb (at (nd .a) .sort) (nd .sort) ∷ []) []
+sortedAs at Next nd = is State (at (nd .a)) ∷ eqb (at (nd .a) .sort) (nd .sort) ∷ eqb (at (nd .b) .sort) (nd .sort) ∷ []
+sortedAs at Input nd = []
+sortedAs at Bad nd = eqb (nd .sort) 1 ∷ eqb (at (nd .a) .sort) 1 ∷ []
+
+-- among any nodes, and in a table
+abbrev pub rule5At : (ℕ → Node) → Node → Bool
+rule5At at nd = every (λ x. mayServe (at x)) (operands nd) && allTrue (sortedAs at (nd .kind) nd)
 
 abbrev pub sorted : List Node → Node → List Bool
-sorted t nd = sortedAs t (λ x. nodeAt t x .sort) (nd .kind) nd
+sorted t nd = sortedAs (nodeAt t) (nd .kind) nd
 
 abbrev pub rule5 : List Node → Node → Bool
-rule5 t nd = every (λ x. mayServe (nodeAt t x)) (operands nd) && allTrue (sorted t nd)
+rule5 t nd = rule5At (nodeAt t) nd
 
 -- ---- "the nodes, rising, for each 3, then 4, then 5": they name the node (section 1)
 abbrev pub checkNode : ℕ → List Node → ℕ → Row → Option Refusal

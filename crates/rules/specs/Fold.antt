@@ -1,14 +1,15 @@
 -- What a node folds to, from its rewritten operands (docs/FORMAT.md, "Folding"; the fold functions of optimize.rs).
 --     Fold     it stays, or another node or a new constant takes its place
 --     constOf  the number of a constant          shared    the shared false or true
--- In each rule x and y are the rewritten operands, cx and cy their numbers where they are constants, and n is the shared false.
+-- In each rule x and y are the rewritten operands, cx and cy their numbers where they are constants, s is the node's sort, and n is the shared false.
+-- "A made constant has the sort of the node that it is made for"
 -- Assumes nothing.
 use Prim.Native.Nat.{ℕ, _+_}
 use mathlib.Core.Bool.{Bool, true, false, cond, _&&_}
 use mathlib.Core.Option.{Option, none, some}
 use lib.Dec.{eqb}
 use Rattle.btor.specs.Operators.{both, either, complement, same, extend}
-use Rattle.btor.specs.Sorts.{width}
+use Rattle.btor.specs.Sorts.{width, ones}
 use Rattle.rules.specs.Table.{Const, Node, is}
 
 pub data Fold : Type 0 where
@@ -34,11 +35,11 @@ foldConst n s x =
     (cond (eqb s 1 && eqb x 1) (shared n true)
     stays)
 
--- "two constants: replaced by a made constant of sort 2", also for an And or an Or of a byte sort
-abbrev pub foldWords : (ℕ → ℕ → ℕ) → Option ℕ → Option ℕ → Fold
-foldWords f none cy = stays
-foldWords f (some x) none = stays
-foldWords f (some x) (some y) = make 2 (f x y)
+-- "two constants: replaced by a made constant of sort 2" under Add to Srl, "by a made constant of the And's sort" and "of the Or's sort" under And and Or
+abbrev pub foldWords : ℕ → (ℕ → ℕ → ℕ) → Option ℕ → Option ℕ → Fold
+foldWords s f none cy = stays
+foldWords s f (some x) none = stays
+foldWords s f (some x) (some y) = make s (f x y)
 
 -- "two constants: replaced by the shared true if left is below right, else by the shared false"; so too for Eq, by whether their numbers are equal
 abbrev pub foldTest : ℕ → (ℕ → ℕ → Bool) → Option ℕ → Option ℕ → Fold
@@ -58,25 +59,25 @@ foldNot n s (some x) =
     (cond (eqb s 1 && eqb x 1) (shared n false)
     (make s (complement (width s) x)))
 
--- "a made constant of sort 2 with the same number"
-abbrev pub foldExt : Option ℕ → Fold
-foldExt none = stays
-foldExt (some x) = make 2 (extend x)
+-- "a made constant of sort 2 with the same number", which is the Ext's own
+abbrev pub foldExt : ℕ → Option ℕ → Fold
+foldExt s none = stays
+foldExt s (some x) = make s (extend x)
 
 -- "left is 0 (replaced by left), right is 0 (by right), left is all ones of the And's sort (by right), right is all ones (by left), two constants"
 abbrev pub foldAnd : ℕ → ℕ → ℕ → Option ℕ → Option ℕ → Fold
-foldAnd all x y cx cy =
+foldAnd s x y cx cy =
     cond (isConst cx 0) (swap x)
     (cond (isConst cy 0) (swap y)
-    (cond (isConst cx all) (swap y)
-    (cond (isConst cy all) (swap x)
-    (foldWords both cx cy))))
+    (cond (isConst cx (ones s)) (swap y)
+    (cond (isConst cy (ones s)) (swap x)
+    (foldWords s both cx cy))))
 
 -- "left is 0 (replaced by right), right is 0 (by left), left is all ones of the Or's sort (by left), right is all ones (by right), two constants"
 abbrev pub foldOr : ℕ → ℕ → ℕ → Option ℕ → Option ℕ → Fold
-foldOr all x y cx cy =
+foldOr s x y cx cy =
     cond (isConst cx 0) (swap y)
     (cond (isConst cy 0) (swap x)
-    (cond (isConst cx all) (swap x)
-    (cond (isConst cy all) (swap y)
-    (foldWords either cx cy))))
+    (cond (isConst cx (ones s)) (swap x)
+    (cond (isConst cy (ones s)) (swap y)
+    (foldWords s either cx cy))))

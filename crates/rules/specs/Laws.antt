@@ -11,9 +11,9 @@ use lib.ListN.{length}
 use Rattle.btor.specs.Sorts.{width}
 use Rattle.rules.specs.Lists.{All}
 use Rattle.rules.specs.Refusal.{done}
-use Rattle.rules.specs.Table.{Const, Ext, State, Next, Node, nodeAt, is, operands}
+use Rattle.rules.specs.Table.{Const, Ext, State, Next, Node, constant, coded, nodeAt, is, operands}
 use Rattle.rules.specs.Model.{Model, Mode}
-use Rattle.rules.specs.Check.{mayServe}
+use Rattle.rules.specs.Check.{knownSort, unusedAs, rule3, mayServe, rule5At}
 use Rattle.rules.specs.Legal.{AllLegal, WellFormed}
 use Rattle.rules.specs.Walk.{St, replaced}
 use Rattle.rules.specs.Fold.{constOf}
@@ -28,10 +28,6 @@ OfFolds P = (m : Model) (how : Mode) (f : Folded) → WellFormed m → fold m ho
 abbrev pub IsNew : List Node → St → ℕ → Type 0
 IsNew t σ x = (length t ≤ x) × (x < length t + 2 + σ .made)
 
--- a constant of sort s may stand for a node of sort s₀: it has that sort, or it is of sort 2 in place of one of 11 to 17
-abbrev pub SortFor : ℕ → ℕ → Type 0
-SortFor s s₀ = (s ≡ s₀) ⊎ ((s ≡ 2) × (11 ≤ s₀) × (s₀ ≤ 17))
-
 -- each replacement is a constant or stands before its node
 unfoldable pub ReplacementBefore : Type 0
 ReplacementBefore = OfFolds (λ t σ. (k r : ℕ) → k < length t → σ .mark k ≡ replaced r → (r < k) ⊎ IsNew t σ r)
@@ -40,27 +36,37 @@ ReplacementBefore = OfFolds (λ t σ. (k r : ℕ) → k < length t → σ .mark 
 unfoldable pub ReplacementServes : Type 0
 ReplacementServes = OfFolds (λ t σ. (k r : ℕ) → k < length t → σ .mark k ≡ replaced r → r < length t → mayServe (nodeAt t r) ≡ true)
 
--- a node has the replaced node's sort; a constant may stand for it
+-- "every replacement, a node or a constant, has its node's own sort"
+abbrev pub SortsKept : List Node → St → Type 0
+SortsKept t σ = (k r : ℕ) → k < length t → σ .mark k ≡ replaced r → σ .rows r .sort ≡ nodeAt t k .sort
+
 unfoldable pub ReplacementSort : Type 0
-ReplacementSort =
-    OfFolds (λ t σ. (k r : ℕ) → k < length t → σ .mark k ≡ replaced r
-    → (r < length t → nodeAt t r .sort ≡ nodeAt t k .sort) × (length t ≤ r → SortFor (σ .rows r .sort) (nodeAt t k .sort)))
+ReplacementSort = OfFolds SortsKept
+
+-- "every made constant is the replacement of some node", of its sort
+abbrev pub MadeFor : List Node → St → Type 0
+MadeFor t σ =
+    (r : ℕ) → length t + 2 ≤ r → r < length t + 2 + σ .made → (k : ℕ) × (k < length t) × (σ .mark k ≡ replaced r) × (σ .rows r .sort ≡ nodeAt t k .sort)
+
+unfoldable pub MadeReplaces : Type 0
+MadeReplaces = OfFolds MadeFor
 
 -- a constant's number fits the replaced node's width
 unfoldable pub ReplacementFits : Type 0
 ReplacementFits =
     OfFolds (λ t σ. (k r x : ℕ) → k < length t → σ .mark k ≡ replaced r → constOf (σ .rows) r ≡ some x → x < 2 ^ width (nodeAt t k .sort))
 
--- every number from n on that is in use is a Const of a sort other than 3, and its number fits that sort
+-- every number from n on that is in use is a Const and no word besides, of a known sort other than 3, and its number fits that sort
 pub record MadeRow (nd : Node) : Type 0 where
-  pub const : nd .kind ≡ Const
+  pub const : nd ≡ constant (nd .sort) (nd .a)
+  pub known : knownSort (nd .sort) ≡ true
   pub sort : nd .sort ≢ 3
   pub fits : nd .a < 2 ^ width (nd .sort)
 
 unfoldable pub MadeFits : Type 0
 MadeFits = OfFolds (λ t σ. (r : ℕ) → IsNew t σ r → MadeRow (σ .rows r))
 
--- a rewritten row keeps its kind, sort and name, a Const its number, an Ext its from, a State its b, a Next its state
+-- a rewritten row keeps its kind, sort, name and unused words, a Const its number, an Ext its from, a State its b, a Next its state
 pub record SameNode (nd g : Node) : Type 0 where
   pub kind : nd .kind ≡ g .kind
   pub sort : nd .sort ≡ g .sort
@@ -69,6 +75,7 @@ pub record SameNode (nd g : Node) : Type 0 where
   pub from : is Ext g ≡ true → nd .b ≡ g .b
   pub init : is State g ≡ true → nd .b ≡ g .b
   pub state : is Next g ≡ true → nd .a ≡ g .a
+  pub unused : unusedAs (g .kind) nd ≡ unusedAs (g .kind) g
 
 unfoldable pub RowKeeps : Type 0
 RowKeeps = OfFolds (λ t σ. (k : ℕ) → k < length t → SameNode (σ .rows k) (nodeAt t k))
@@ -76,6 +83,22 @@ RowKeeps = OfFolds (λ t σ. (k : ℕ) → k < length t → SameNode (σ .rows k
 -- each operand of a rewritten row is below the row or a constant
 unfoldable pub OperandsBelow : Type 0
 OperandsBelow = OfFolds (λ t σ. (k : ℕ) → k < length t → All (λ x. (x < k) ⊎ IsNew t σ x) (operands (σ .rows k)))
+
+-- a row passes rules 3 and 5 among the rewritten rows and the constants behind them; for rule 4, each operand is below the row or a constant
+pub record Passes (names : ℕ) (t : List Node) (σ : St) (k : ℕ) : Type 0 where
+  pub three : rule3 names (coded (σ .rows k)) ≡ true
+  pub before : All (λ x. (x < k) ⊎ IsNew t σ x) (operands (σ .rows k))
+  pub five : rule5At (σ .rows) (σ .rows k) ≡ true
+
+-- every rewritten row and every constant does, if the given rows pass rule 3
+abbrev pub AllPass : ℕ → List Node → St → Type 0
+AllPass names t σ = (k : ℕ) → k < length t + 2 + σ .made → Passes names t σ k
+
+abbrev pub GivenPass : ℕ → List Node → Type 0
+GivenPass names t = (k : ℕ) → k < length t → rule3 names (coded (nodeAt t k)) ≡ true
+
+unfoldable pub RowsPass : Type 0
+RowsPass = (names : ℕ) (m : Model) (how : Mode) (f : Folded) → WellFormed m → GivenPass names (m .table) → fold m how ≡ done f → AllPass names (m .table) (f .state)
 
 -- fuel is bookkeeping: in a legal table a visit from a list is the rule of visits over itself
 unfoldable pub VisitRule : Type 0

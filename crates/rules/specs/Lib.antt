@@ -28,3 +28,4 @@ pub mod Reader
 pub mod Numbered
 pub mod Worked
 pub mod KeptState
+pub mod OwnSort

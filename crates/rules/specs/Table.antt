@@ -1,6 +1,7 @@
 -- A table of nodes (docs/FORMAT.md, "Nodes"; Node of mod.rs).
 --     Row, rowWidth   a node as six words        Kind, kinds, kindCode   the 22 kinds and their codes
 --     Node, decode    the node that a row is     operands                the numbers that a node names
+--     coded           the row that a node is
 -- Assumes nothing.
 use Prim.Native.Nat.{ℕ, _^_}
 use mathlib.Core.Bool.{Bool, cond}
@@ -76,6 +77,10 @@ pub record Node : Type 0 where
 
 abbrev pub decode : Row → Node
 decode r = record { kind = kindOf (r .code); sort = r .sort; a = r .a; b = r .b; c = r .c; name = r .name }
+
+-- the row that a node is
+abbrev pub coded : Node → Row
+coded nd = record { code = kindCode (nd .kind); sort = nd .sort; a = nd .a; b = nd .b; c = nd .c; name = nd .name }
 
 abbrev pub is : Kind → Node → Bool
 is K nd = eqb (kindCode (nd .kind)) (kindCode K)

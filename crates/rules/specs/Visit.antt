@@ -10,7 +10,6 @@ use mathlib.Core.List.{List, [], _∷_}
 use lib.ListN.{length}
 use lib.Dec.{eqb}
 use Rattle.btor.specs.Operators.{Reading, compute, less}
-use Rattle.btor.specs.Sorts.{ones}
 use Rattle.rules.specs.Refusal.{Out, done, refuse, _>>=_}
 use Rattle.rules.specs.Table.{Kind, Const, Read, Write, Word, Ult, Ext, Ite, Eq, And, Or, Not, State, Next, Input, Bad, Node, nodeAt, with, fits}
 use Rattle.rules.specs.Walk.{St, Mark, fresh, kept, replaced, setRow, setMark, addConst, setInputs, addHeld, addTally}
@@ -131,15 +130,15 @@ module _ (t : List Node) (ways : Ways) where
     process Write σ k nd = do
       (σ₁, xyz) ← visit3 vis σ k nd
       settle k σ₁ stays
-    process (Word op) σ k nd = binary σ k nd (λ x y. foldWords (compute (ways .reading) op)) quiet
+    process (Word op) σ k nd = binary σ k nd (λ x y. foldWords (nd .sort) (compute (ways .reading) op)) quiet
     process Ult σ k nd = binary σ k nd (λ x y. foldTest (length t) less) (askBit (ways .replyCount) (length t) k quiet)
-    process Ext σ k nd = unary σ k nd foldExt
+    process Ext σ k nd = unary σ k nd (foldExt (nd .sort))
     process Ite σ k nd = do
       (σ₁, x) ← vis σ (nd .a)
       iteOn σ₁ k nd x (branch (constOf (σ₁ .rows) x))
     process Eq σ k nd = binary σ k nd (foldEq (length t)) (askBit (ways .replyCount) (length t) k quiet)
-    process And σ k nd = binary σ k nd (foldAnd (ones (nd .sort))) (askAnd (ways .replyCount) (length t) (nd .sort) k)
-    process Or σ k nd = binary σ k nd (foldOr (ones (nd .sort))) quiet
+    process And σ k nd = binary σ k nd (foldAnd (nd .sort)) (askAnd (ways .replyCount) (length t) (nd .sort) k)
+    process Or σ k nd = binary σ k nd (foldOr (nd .sort)) quiet
     process Not σ k nd = unary σ k nd (foldNot (length t) (nd .sort))
     process State σ k nd = elim (eqb (nd .b) 1) [ true ↦ unary σ k nd (λ x. stays) | false ↦ takeInput σ k nd (σ .inputs) ]
     process Next σ k nd = do

@@ -181,10 +181,10 @@ module _ (names : ℕ) (r : Row) where
 
 -- ---- sorts, where the nodes of the table before the row are those of the words
 word-sorts : (code : ℕ) → (4 ≤ code) × (code < 12)
-    → (t : List Node) (s : ℕ → ℕ) (nd : Node) → sortedAs t s (kindOf code) nd ≡ eqb (nd .sort) 2 ∷ eqb (s (nd .a)) 2 ∷ eqb (s (nd .b)) 2 ∷ []
+    → (at : ℕ → Node) (nd : Node) → sortedAs at (kindOf code) nd ≡ eqb (nd .sort) 2 ∷ eqb (at (nd .a) .sort) 2 ∷ eqb (at (nd .b) .sort) 2 ∷ []
 word-sorts =
-    word-code (λ code. (t : List Node) (s : ℕ → ℕ) (nd : Node) → sortedAs t s (kindOf code) nd ≡ eqb (nd .sort) 2 ∷ eqb (s (nd .a)) 2 ∷ eqb (s (nd .b)) 2 ∷ [])
-    (λ t s nd. refl) (λ t s nd. refl) (λ t s nd. refl) (λ t s nd. refl) (λ t s nd. refl) (λ t s nd. refl) (λ t s nd. refl) (λ t s nd. refl)
+    word-code (λ code. (at : ℕ → Node) (nd : Node) → sortedAs at (kindOf code) nd ≡ eqb (nd .sort) 2 ∷ eqb (at (nd .a) .sort) 2 ∷ eqb (at (nd .b) .sort) 2 ∷ [])
+    (λ at nd. refl) (λ at nd. refl) (λ at nd. refl) (λ at nd. refl) (λ at nd. refl) (λ at nd. refl) (λ at nd. refl) (λ at nd. refl)
 
 pub sorted-const : (t : List Node) (r : Row) → r .code ≡ 1 → (not (eqb (r .sort) 3) && fits (r .sort) (r .a)) ≡ allTrue (sorted t (decode r))
 sorted-const t r e = rw e (simp and-true)
@@ -210,7 +210,7 @@ module _ (k : ℕ) (ws : List ℕ) (t : List Node) (r : Row) (same : (x : ℕ) �
     sorted-read e = rw (e, same (r .a) first, same (r .b) second) (simp and-true)
 
     pub sorted-word : (4 ≤ r .code) × (r .code < 12) → (eqb (r .sort) 2 && (eqb (sort (r .a)) 2 && eqb (sort (r .b)) 2)) ≡ allTrue (sorted t (decode r))
-    sorted-word e = rw (word-sorts (r .code) e t (λ x. nodeAt t x .sort) (decode r), same (r .a) first, same (r .b) second) (simp and-true)
+    sorted-word e = rw (word-sorts (r .code) e (nodeAt t) (decode r), same (r .a) first, same (r .b) second) (simp and-true)
 
     pub sorted-comparison : (r .code ≡ 12) ⊎ (r .code ≡ 15)
         → (eqb (r .sort) 1 && (eqb (sort (r .a)) (sort (r .b)) && not (eqb (sort (r .a)) 3))) ≡ allTrue (sorted t (decode r))

@@ -1,4 +1,4 @@
--- `fold_any_binary` sets an operand that is no constant aside, and applies the operator to two.
+-- `fold_any_binary` sets an operand that is no constant aside, and applies the operator to two; what it makes has the node's sort.
 -- Assumes nothing.
 use borrow.Author.Needs.{needs}
 use mathlib.Core.Path.{_≡_, ap}
@@ -30,7 +30,8 @@ apply-requires c κs = search needs
 returns-3 : tie.Need-returns-3
 returns-3 c =
     let at-left = c .before .before .before .before .before in
-    rw (at-left .left .given .1, c .before .before .right .given .1) (ap (λ z. make 2 z) (c .apply .ensures))
+    let start = at-left .before .before in
+    rw (at-left .left .given .1, c .before .before .right .given .1) (ap (make (start .args .sort)) (c .apply .ensures))
 
 pub fold-any-binary-spec : {M : Type 1} → statement M
 fold-any-binary-spec =

@@ -1,4 +1,4 @@
--- `fold_ext` makes the same number.
+-- `fold_ext` makes the same number, of the node's sort.
 -- Assumes nothing.
 use borrow.Author.Needs.{needs}
 use mathlib.Core.Path.{_≡_, ap}
@@ -19,7 +19,9 @@ ext-requires : tie.Need-ext-requires
 ext-requires c κs = search needs
 
 returns-2 : tie.Need-returns-2
-returns-2 c = rw (c .before .before .value .given .1) (ap (λ z. make 2 z) (c .ext .ensures))
+returns-2 c =
+    let start = c .before .before .before .before in
+    rw (c .before .before .value .given .1) (ap (make (start .args .sort)) (c .ext .ensures))
 
 pub fold-ext-spec : {M : Type 1} → statement M
 fold-ext-spec = tie.close (tie.spec enum-known-value enum-told returns ext-requires returns-2)

@@ -120,6 +120,7 @@ returns-7 c =
     let at-is-const-ones = at-is-const-ones2 .before in
     let at-is-const-zeroes2 = at-is-const-ones .before in
     let at-is-const-zeroes = at-is-const-zeroes2 .before in
+    let start = at-is-const-zeroes .before in
     rw (
       sym (at-is-const-zeroes .is-const-zeroes .ensures) ∙ at-if1 .if1 .left,
       sym (at-is-const-zeroes2 .is-const-zeroes2 .ensures) ∙ at-if2 .if2 .left,
@@ -127,7 +128,7 @@ returns-7 c =
       sym (at-is-const-ones2 .is-const-ones2 .ensures) ∙ at-if4 .if4 .left,
       at-left .left .given .1,
       c .before .before .right .given .1,
-    ) (ap (λ z. make 2 z) (c .or .ensures))
+    ) (ap (make (start .args .sort)) (c .or .ensures))
 
 pub fold-or-spec : {M : Type 1} → statement M
 fold-or-spec =

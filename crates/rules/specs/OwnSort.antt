@@ -1,0 +1,105 @@
+-- A constant has its node's own sort, and what a call leaves passes the rules of sorts again (docs/FORMAT.md, "Folding", "What you may rely on").
+--     OwnSorts, OwnSortsOfCall    replacements, made constants and rows of every accepted call, by any entry point and in any mode
+--     EachSort, ByteWorked        And and Or of each sort; a call with a byte that stays a byte
+--     CanFail                     what is left with one word changed, as the Rust's 64-bit word for that byte, fails each of them
+--     FiveNeeded, ThreeNeeded, SixNeeded    each premise is needed: a model without it, of which they fail
+-- Assumes nothing.
+use Prim.Native.Nat.{ℕ}
+use mathlib.Core.Path.{_≡_}
+use mathlib.Core.Bool.{false}
+use mathlib.Core.List.{List, [], _∷_}
+use lib.ListN.{length}
+use Rattle.rules.specs.Lists.{All}
+use Rattle.rules.specs.Refusal.{Out, refused, done}
+use Rattle.rules.specs.Table.{Eq, And, Row, Node, constant}
+use Rattle.rules.specs.Model.{Model, modelOf}
+use Rattle.rules.specs.Legal.{AllLegal, WellFormed}
+use Rattle.rules.specs.Walk.{St, replaced, setRow, addConst}
+use Rattle.rules.specs.Whole.{Folded, fold}
+use Rattle.rules.specs.Laws.{SortsKept, MadeFor, AllPass, GivenPass}
+use Rattle.rules.specs.Names.{namesOf}
+use Rattle.rules.specs.Limits.{Limits, house}
+use Rattle.rules.specs.Call.{Entry, impl, Call, Accepted, outcome}
+use Rattle.rules.specs.Cases.{row, node, mode0, callOn, Tells, oneMade, only, onTwo}
+use Rattle.rules.specs.Worked.{OfAccepted}
+
+-- ---- the theorem
+pub record OwnSorts (names : ℕ) (t : List Node) (σ : St) : Type 0 where
+  pub replacements : SortsKept t σ
+  pub made : MadeFor t σ
+  pub rows : AllPass names t σ
+
+unfoldable pub OwnSortsOfCall : Type 0
+OwnSortsOfCall =
+    (limits : Limits) (entry : Entry) (call : Call) (a : Accepted) (names : List (List ℕ)) → outcome limits entry call ≡ done a → namesOf limits (call .names) ≡ done names
+    → OwnSorts (length names) (a .model .table) (a .folded .state)
+
+-- ---- And and Or of 3 and 5 in each sort in which they make a constant
+abbrev pub Stays : ℕ → Type 0
+Stays s = Tells (onTwo 16 s 3 5) (oneMade s 1) (only 2 8) 0 0 × Tells (onTwo 17 s 3 5) (oneMade s 7) (only 2 8) 0 0
+
+unfoldable pub EachSort : Type 0
+EachSort = All Stays (2 ∷ 11 ∷ 12 ∷ 13 ∷ 14 ∷ 15 ∷ 16 ∷ 17 ∷ [])
+
+-- ---- 0 and 1 the bytes 3 and 5, 2 their And, 3 an Input, 4 whether 2 is 3, 5 a Bad on that: 8 is the byte 1, made for 2
+abbrev pub byteCall : Call
+byteCall = callOn (onTwo 16 11 3 5)
+
+pub record ByteStays (a : Accepted) : Type 0 where
+  pub count : a .folded .state .made ≡ 1
+  pub byte : a .folded .state .rows 8 ≡ constant 11 1
+  pub mark : a .folded .state .mark 2 ≡ replaced 8
+  pub row : a .folded .state .rows 4 ≡ node Eq 1 8 3 0
+  pub sorts : OwnSorts 1 (a .model .table) (a .folded .state)
+
+unfoldable pub ByteWorked : Type 0
+ByteWorked = OfAccepted ByteStays (outcome house impl byteCall)
+
+-- ---- each part can fail: the same with one word, row or constant more or otherwise
+module _ (t : List Node) (σ : St) where
+  -- the Rust's word of 64 bits for the byte; a constant that stands for no node, or is too wide; 4 with an unused word; 2 with an operand behind it
+  pub record CanFail : Type 0 where
+    pub replacements : SortsKept t (setRow σ 8 (constant 2 1)) → ⊥
+    pub made : MadeFor t (addConst σ 9 11 1) → ⊥
+    pub five : AllPass 1 t (setRow σ 8 (constant 2 1)) → ⊥
+    pub wide : AllPass 1 t (setRow σ 8 (constant 11 256)) → ⊥
+    pub three : AllPass 1 t (setRow σ 4 (node Eq 1 8 3 1)) → ⊥
+    pub before : AllPass 1 t (setRow σ 2 (node And 11 0 3 0)) → ⊥
+
+unfoldable pub ByteCanFail : Type 0
+ByteCanFail = OfAccepted (λ a. CanFail (a .model .table) (a .folded .state)) (outcome house impl byteCall)
+
+-- ---- each premise is needed
+abbrev pub OfFold : (Folded → Type 0) → Out Folded → Type 0
+OfFold P (refused r) = ⊥
+OfFold P (done f) = P f
+
+abbrev pub modelAt : List Row → List ℕ → List ℕ → Model
+modelAt rs ss initial = modelOf rs (λ k. false) ss initial [] [] []
+
+-- 5: the And of sort 11 has a 0 of sort 12 on its left, which takes its place
+abbrev pub mixedRows : List Row
+mixedRows = row 1 12 0 0 0 0 ∷ row 1 11 5 0 0 0 ∷ row 16 11 0 1 0 0 ∷ row 21 11 0 0 0 1 ∷ row 15 1 2 3 0 0 ∷ row 22 1 4 0 0 0 ∷ []
+
+abbrev pub mixed : Model
+mixed = modelAt mixedRows [] (5 ∷ [])
+
+unfoldable pub FiveNeeded : Type 0
+FiveNeeded = GivenPass 1 (mixed .table) × OfFold (λ f. (SortsKept (mixed .table) (f .state) → ⊥) × (AllPass 1 (mixed .table) (f .state) → ⊥)) (fold mixed mode0)
+
+-- 3: an Input with an unused word
+abbrev pub unread : Model
+unread = modelAt (row 21 2 7 0 0 1 ∷ []) [] []
+
+unfoldable pub ThreeNeeded : Type 0
+ThreeNeeded = WellFormed unread × OfFold (λ f. AllPass 1 (unread .table) (f .state) → ⊥) (fold unread mode0)
+
+-- 6: 2, an And of 1 and 1, is listed as a Next; 1, an Ext of the byte 0, is taken for its state and replaced by that
+abbrev pub listedRows : List Row
+listedRows = row 1 11 3 0 0 0 ∷ row 13 2 0 11 0 0 ∷ row 16 2 1 1 0 0 ∷ []
+
+abbrev pub listed : Model
+listed = modelAt listedRows (2 ∷ []) []
+
+unfoldable pub SixNeeded : Type 0
+SixNeeded = AllLegal (listed .table) × GivenPass 1 (listed .table) × OfFold (λ f. SortsKept (listed .table) (f .state) → ⊥) (fold listed mode0)
