@@ -1,5 +1,7 @@
-// A text's answer: refusals 1 to 7 and 12 as docs/FORMAT.md has them, all else by the published Rust; and how the program prints it.
+// A text's answer: refusals 1 to 7 and 12 as docs/FORMAT.md has them, all else by the published Rust but for the departures; and how the
+// program prints it.
 
+use crate::departures::depart;
 use crate::fold::{self, Sections};
 use crate::table::{Refusal, Table};
 
@@ -8,7 +10,19 @@ pub type Answer = Result<Sections, Refusal>;
 const WIDTHS: [usize; 9] = [6, 2, 2, 1, 1, 1, 1, 4, 1];
 
 pub fn answer(text: &[u8]) -> Answer {
-    Table::read(text).and_then(|table| fold::answer(&table))
+    judged(text).0
+}
+
+// A text's answer, and a name for each departure in it.
+pub fn judged(text: &[u8]) -> (Answer, Vec<&'static str>) {
+    let folded = Table::read(text).and_then(|table| Ok((fold::answer(&table)?, table)));
+    match folded {
+        Ok((mut sections, table)) => {
+            let departed = depart(&table, &mut sections);
+            (Ok(sections), departed)
+        }
+        Err(refused) => (Err(refused), vec![]),
+    }
 }
 
 // The lines that the program prints, without their ends.

@@ -1,7 +1,8 @@
 // Random cases, asked of a program and of the published Rust; what was asked, and each difference.
 //     compare PROGRAM COUNT [SEED]     the exit status is 1 if anything differs, 2 if it could not be asked
 
-use judge::answer::{answer, hide_refusals, printed, Answer};
+use judge::answer::{hide_refusals, judged, printed, Answer};
+use judge::departures;
 use judge::mix::{self, Case};
 use judge::random::Random;
 use std::collections::BTreeMap;
@@ -52,6 +53,14 @@ struct Asked {
     labels: BTreeMap<&'static str, u64>,
     accepted: u64,
     refused: BTreeMap<(u64, u64), u64>,
+    departed: BTreeMap<&'static str, Touched>,
+}
+
+// How often a departure was met.
+#[derive(Default)]
+struct Touched {
+    cases: u64,
+    constants: u64,
 }
 
 // What the program answered: how its runs ended, how many differ, and the first of those.
@@ -75,8 +84,9 @@ fn compare(program: &str, count: u64, seed: u64) -> (Asked, Found) {
         let mut random = Random(seed);
         for place in 0..count {
             let case = mix::case(&mut random);
-            let answer = answer(&case.text);
+            let (answer, departed) = judged(&case.text);
             asked.note(&case, &answer);
+            asked.note_departures(&departed);
             let question = Question { place, case, expected: printed(&answer) };
             sender.send(question).expect("a thread that asks");
         }
@@ -131,6 +141,15 @@ impl Asked {
         }
     }
 
+    fn note_departures(&mut self, departed: &[&'static str]) {
+        for entry in departures::LIST {
+            let constants = departed.iter().filter(|name| **name == entry.name).count() as u64;
+            let touched = self.departed.entry(entry.name).or_default();
+            touched.cases += (constants > 0) as u64;
+            touched.constants += constants;
+        }
+    }
+
     fn print(&self) {
         println!("cases:");
         print_counts(&self.kinds);
@@ -147,6 +166,10 @@ impl Asked {
             let parts: Vec<String> =
                 sections.iter().map(|(section, count)| format!("{section}: {count}")).collect();
             println!("  {total:>8}  refused {number} (by section {})", parts.join(", "));
+        }
+        println!("departures from the Rust:");
+        for (name, Touched { cases, constants }) in &self.departed {
+            println!("  {cases:>8}  cases, in {constants} constants: {name}");
         }
     }
 }

@@ -31,7 +31,7 @@ const SATISFIABLE: &str = "Bad state satisfiable";
 const LOOKED_AT: usize = 2;
 const PASSED: usize = 3;
 
-// What the plain run gives, and from a run with markers the two counts of writes.
+// What the plain run gives, each word the Rust's own, and from a run with markers the two counts of writes.
 pub fn answer(table: &Table) -> Result<Sections, Refusal> {
     let refused = |(panic, run): Ended| refusal_of(panic, table, &run);
     let plain = run(table, false, true).map_err(refused);

@@ -1,8 +1,9 @@
-// The judge as a library: cases of every sort, and their answers by the published Rust.
+// The judge as a library: cases of every sort, and their answers by the published Rust but for the departures.
 
 pub mod answer;
 pub mod cases;
 pub mod damages;
+pub mod departures;
 pub mod features;
 pub mod fold;
 pub mod graph;
