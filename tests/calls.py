@@ -76,7 +76,7 @@ def folded(name, kind, x, y, value, sort=WORD):
     nodes = [node(CONST, sort, x), node(CONST, sort, y), node(kind, sort, 0, 1), node(STATE, sort, 0, 1)]
     for entry_name, entry in ENTRIES.items():
         whole('%s_by_%s' % (name, entry_name), sections(nodes + [node(NEXT, sort, 3, 2)], [4]),
-              left(nodes + [node(NEXT, sort, 3, 7)], made=[(WORD, value)], replaced=[(2, 7)], sequentials=[4]),
+              left(nodes + [node(NEXT, sort, 3, 7)], made=[(sort, value)], replaced=[(2, 7)], sequentials=[4]),
               entry=entry)
 
 
@@ -89,7 +89,9 @@ folded('div_least_by_-1', DIV, 2**63, MOST, 2**63 - 1)
 folded('rem_5_by_0_is_most', REM, 5, 0, MOST)
 folded('sll_1_by_63', SLL, 1, 63, 2**63)
 folded('sll_1_by_64_is_0', SLL, 1, 64, 0)
-folded('byte_and_3_and_5_is_a_word', AND, 3, 5, 1, BYTE)
+folded('byte_and_3_and_5_stays_a_byte', AND, 3, 5, 1, BYTE)
+folded('word_and_3_and_5_stays_a_word', AND, 3, 5, 1)
+folded('word_or_3_and_5_stays_a_word', OR, 3, 5, 7)
 
 BYTE_NOT = [node(CONST, BYTE, 0), node(NOT, BYTE, 0), node(STATE, BYTE, 0, 1)]
 for entry_name, entry in ENTRIES.items():
@@ -512,6 +514,125 @@ whole('minimise_asks_nothing_about_bytes_or_not', sections(BYTE_ITE + [node(ULT,
            questions=[(ALWAYS_TRUE, 8, 0, 0), (ALWAYS_FALSE, 8, 0, 0), (SATISFIABLE, 8, 0, 0), (SATISFIABLE, 7, 0, 0)]),
       A_NAME, MINIMISE)
 
+# --- And and Or: a made constant has the node's sort. As above 0 and 1 fold in 2, which is the next value of 3
+
+
+def bits(name, kind, sort, x, y, stands, made=()):
+    nodes = [node(CONST, sort, x), node(CONST, sort, y), node(kind, sort, 0, 1), node(STATE, sort, 0, 1)]
+    whole('%s_sort_%d_%s' % ('and' if kind == AND else 'or', sort, name), sections(nodes + [node(NEXT, sort, 3, 2)], [4]),
+          left(nodes + [node(NEXT, sort, 3, stands)], made=made, replaced=[(2, stands)], sequentials=[4]))
+
+
+FIRST, SECOND, MADE = 0, 1, 7
+TOPS = {11: 2**8 - 1, 12: 2**16 - 1, 13: 2**24 - 1, 14: 2**32 - 1, 15: 2**40 - 1, 16: 2**48 - 1, 17: 2**56 - 1, WORD: MOST}
+for sort, top in TOPS.items():
+    half = (top + 1) // 2
+    bits('top_less_1_and_2', AND, sort, top - 1, 2, MADE, [(sort, 2)])
+    bits('top_less_1_and_itself', AND, sort, top - 1, top - 1, MADE, [(sort, top - 1)])
+    bits('top_less_1_and_1_is_0', AND, sort, top - 1, 1, MADE, [(sort, 0)])
+    bits('top_half_and_1', OR, sort, half, 1, MADE, [(sort, half + 1)])
+    bits('1_and_itself', OR, sort, 1, 1, MADE, [(sort, 1)])
+    bits('top_less_1_and_1_is_top', OR, sort, top - 1, 1, MADE, [(sort, top)])
+    # an operand stands for it: nothing is made
+    bits('left_zero', AND, sort, 0, 5, FIRST)
+    bits('right_zero', AND, sort, 5, 0, SECOND)
+    bits('left_top', AND, sort, top, 5, SECOND)
+    bits('right_top', AND, sort, 5, top, FIRST)
+    bits('left_zero', OR, sort, 0, 5, SECOND)
+    bits('right_zero', OR, sort, 5, 0, FIRST)
+    bits('left_top', OR, sort, top, 5, FIRST)
+    bits('right_top', OR, sort, 5, top, SECOND)
+for sort, narrower in ((12, 11), (13, 12), (14, 13), (15, 14), (16, 15), (17, 16), (WORD, 17)):
+    # the top of a narrower sort is not all ones
+    bits('top_of_%d_and_1' % narrower, AND, sort, TOPS[narrower], 1, MADE, [(sort, 1)])
+    bits('top_of_%d_and_1' % narrower, OR, sort, TOPS[narrower], 1, MADE, [(sort, TOPS[narrower])])
+bits('255_and_65280_is_0', AND, 12, 255, 65280, MADE, [(12, 0)])
+bits('255_and_65280_is_top', OR, 12, 255, 65280, MADE, [(12, 65535)])
+for kind_name, kind, values in (('and', AND, (0, 0, 0, 1)), ('or', OR, (0, 1, 1, 1))):
+    # of two bits none is made: 0 or 1 always is all zeros or all ones, and the shared constants stand for both
+    for x, y, value in zip((0, 0, 1, 1), (0, 1, 0, 1), values):
+        nodes = [node(CONST, BIT, x), node(CONST, BIT, y)]
+        whole('bit_%s_%d_and_%d_makes_none' % (kind_name, x, y),
+              sections(nodes + [node(kind, BIT, 0, 1), node(BAD, BIT, 2)], bads=[3]),
+              left(nodes + [node(kind, BIT, 4 + x, 4 + y), node(BAD, BIT, 4 + value)],
+                   replaced=[(0, 4 + x), (1, 4 + y), (2, 4 + value)], bads=[3] * value))
+
+# --- who reads on the byte 1 that an And of 3 and 5 makes; 2 is the And
+
+MADE_1 = [node(CONST, BYTE, 3), node(CONST, BYTE, 5), node(AND, BYTE, 0, 1)]
+A_BYTE = node(INPUT, BYTE, name=1)
+for mode in (0, MINIMISE):
+    as_mode = '_in_mode_%d' % mode
+    # the next value of a State of bytes
+    held = [node(STATE, BYTE, 0, 1)]
+    whole('not_of_a_made_byte' + as_mode, sections(MADE_1 + [node(NOT, BYTE, 2)] + held + [node(NEXT, BYTE, 4, 3)], [5]),
+          left(MADE_1 + [node(NOT, BYTE, 8)] + held + [node(NEXT, BYTE, 4, 9)], made=[(BYTE, 1), (BYTE, 254)],
+               replaced=[(2, 8), (3, 9)], sequentials=[5]), mode=mode)
+    for what, kind, other, stands, made in (
+            ('or_of_8', OR, 8, 10, [(BYTE, 9)]), ('and_of_7', AND, 7, 10, [(BYTE, 1)]), ('or_of_0', OR, 0, 9, []),
+            ('and_of_255', AND, 255, 9, []), ('and_of_0', AND, 0, 3, []), ('or_of_255', OR, 255, 3, [])):
+        over = MADE_1 + [node(CONST, BYTE, other)]
+        whole('%s_and_a_made_byte' % what + as_mode,
+              sections(over + [node(kind, BYTE, 3, 2)] + held + [node(NEXT, BYTE, 5, 4)], [6]),
+              left(over + [node(kind, BYTE, 3, 9)] + held + [node(NEXT, BYTE, 5, stands)], made=[(BYTE, 1)] + made,
+                   replaced=[(2, 9), (4, stands)], sequentials=[6]), mode=mode)
+    for value, branches, chosen in ((1, (2, 0), (9, 0)), (0, (0, 2), (0, 9))):
+        over = MADE_1 + [node(CONST, BIT, value)]
+        whole('ite_at_%d_is_a_made_byte' % value + as_mode,
+              sections(over + [node(ITE, BYTE, 3, *branches)] + held + [node(NEXT, BYTE, 5, 4)], [6]),
+              left(over + [node(ITE, BYTE, 7 + value, *chosen)] + held + [node(NEXT, BYTE, 5, 9)], made=[(BYTE, 1)],
+                   replaced=[(2, 9), (3, 7 + value), (4, 9)], sequentials=[6]), mode=mode)
+    whole('open_ite_of_a_made_byte' + as_mode,
+          sections(MADE_1 + [A_BIT, node(ITE, BYTE, 3, 2, 0)] + held + [node(NEXT, BYTE, 5, 4)], [6]),
+          left(MADE_1 + [A_BIT, node(ITE, BYTE, 3, 9, 0)] + held + [node(NEXT, BYTE, 5, 4)], made=[(BYTE, 1)],
+               replaced=[(2, 9)], sequentials=[6]), A_NAME, mode)
+    # a word again, with the operand's sort in the Ext's row
+    word = [node(CONST, WORD, 0), node(STATE, WORD, 4, 1)]
+    whole('ext_of_a_made_byte_is_a_word' + as_mode,
+          sections(MADE_1 + [node(EXT, WORD, 2, BYTE)] + word + [node(NEXT, WORD, 5, 3)], [6]),
+          left(MADE_1 + [node(EXT, WORD, 9, BYTE)] + word + [node(NEXT, WORD, 5, 10)], made=[(BYTE, 1), (WORD, 1)],
+               replaced=[(2, 9), (3, 10)], sequentials=[6]), mode=mode)
+    # an init, with another next value
+    whole('made_byte_is_an_init' + as_mode, sections(MADE_1 + [node(STATE, BYTE, 2, 1), node(NEXT, BYTE, 3, 0)], [4]),
+          left(MADE_1 + [node(STATE, BYTE, 7, 1), node(NEXT, BYTE, 3, 0)], made=[(BYTE, 1)], replaced=[(2, 7)],
+               sequentials=[4]), mode=mode)
+    # tests fold, and nothing is asked
+    for kind_name, kind, other, holds in (('eq', EQ, 1, 1), ('eq', EQ, 2, 0), ('ult', ULT, 2, 1), ('ult', ULT, 1, 0)):
+        over = MADE_1 + [node(CONST, BYTE, other)]
+        whole('%s_of_a_made_byte_and_%d' % (kind_name, other) + as_mode,
+              sections(over + [node(kind, BIT, 2, 3), node(BAD, BIT, 4)], bads=[5]),
+              left(over + [node(kind, BIT, 8, 3), node(BAD, BIT, 6 + holds)], made=[(BYTE, 1)],
+                   replaced=[(2, 8), (4, 6 + holds)], bads=[5] * holds), mode=mode)
+    for kind_name, kind in (('eq', EQ), ('ult', ULT)):
+        whole('open_%s_of_a_made_byte' % kind_name + as_mode,
+              sections(MADE_1 + [A_BYTE, node(kind, BIT, 2, 3), node(BAD, BIT, 4)], bads=[5]),
+              left(MADE_1 + [A_BYTE, node(kind, BIT, 8, 3), node(BAD, BIT, 4)], made=[(BYTE, 1)], replaced=[(2, 8)], bads=[5],
+                   questions=([(ALWAYS_TRUE, 4, 0, 0), (ALWAYS_FALSE, 4, 0, 0)] if mode else []) + [(SATISFIABLE, 4, 0, 0)]),
+              A_NAME, mode)
+    # the And as the init of a State whose Next is dropped: as it stands and unvisited, also where a visit makes its constant later
+    dropped = MADE_1 + [node(STATE, BYTE, 2, 1), node(NEXT, BYTE, 3, 3)]
+    whole('byte_and_as_the_init_of_a_dropped_state' + as_mode, sections(dropped, [4]), left(dropped, replaced=[(3, 2)]),
+          mode=mode)
+    whole('byte_and_as_that_init_and_visited' + as_mode,
+          sections(dropped + [node(ULT, BIT, 3, 2), node(BAD, BIT, 5)], [4], [6]),
+          left(dropped + [node(ULT, BIT, 2, 9), node(BAD, BIT, 5)], made=[(BYTE, 1)], replaced=[(2, 9), (3, 2)], bads=[6],
+               questions=([(ALWAYS_TRUE, 5, 0, 0), (ALWAYS_FALSE, 5, 0, 0)] if mode else []) + [(SATISFIABLE, 5, 0, 0)]),
+          mode=mode)
+
+# a State takes an input, and an And reads on what was made for it: two constants of one sort
+for sort, top in TOPS.items():
+    nodes = [node(CONST, sort, 2), node(STATE, sort)]
+    whole('and_sort_%d_of_an_input' % sort,
+          sections(nodes + [node(AND, sort, 1, 0), node(EQ, BIT, 2, 0), node(BAD, BIT, 3)], bads=[4], inputs=[top - 1]),
+          left(nodes + [node(AND, sort, 7, 0), node(EQ, BIT, 8, 0), node(BAD, BIT, 6)], made=[(sort, top - 1), (sort, 2)],
+               replaced=[(1, 7), (2, 8), (3, 6)], bads=[4], taken=1))
+# a constant for each of 4,092 Ands of bytes: 1 of 3 and 5, then 1 of that 1 and 3
+whole('nodes_4096_byte_ands_all_fold',
+      sections(MADE_1 + [node(AND, BYTE, (2, 1), 0, times=4091), node(EQ, BIT, 4093, 0), node(BAD, BIT, 4094)],
+               later=[4095]),
+      left(MADE_1 + [node(AND, BYTE, (N + 2, 1), 0, times=4091), node(EQ, BIT, N + 4093, 0), node(BAD, BIT, N)],
+           made=[Group(4092, BYTE, 1)], replaced=[Group(4092, (2, 1), (N + 2, 1)), (4094, N)]))
+
 # --- wrong answers, each in one small way: who overlooks it counts too few. The list cannot say of scratch, or of the words after the
 # result, that they are not 0.
 
@@ -543,6 +664,14 @@ def wrong_call(what, name, refusal, words=()):
     return wrong(calls, what, name, (refusal, words), plain)
 
 
+def wrong_sort(what, name, constant, sort):
+    """That case with another sort for its last made constant, which is (sort, number)."""
+    words = flat(next(call for call in calls if call[0] == name)[-1])
+    at = 1 + 6 * words[0] + 2 * words[1 + 6 * words[0]]
+    assert (words[at - 1], words[at]) == constant, name
+    return wrong_call(what, name, DONE, words[:at - 1] + [sort] + words[at:])
+
+
 wrong_calls = [
     wrong_call('first_word', 'every_section_room', DONE, but(ALL_WORDS, 0, 1)),
     wrong_call('middle_word', 'every_section_room', DONE, but(ALL_WORDS, len(ALL_WORDS) // 2, 1)),
@@ -570,6 +699,13 @@ wrong_calls = [
     wrong_call('refused_9', 'kept_next_visits_its_state_in_mode_0', (9, 1, 5)),
     wrong_call('state_not_visited', 'kept_next_visits_its_state_in_mode_0', DONE,
                flat(left(KEPT[:5] + [node(NEXT, BIT, 3, 7)], replaced=[(4, 7)], sequentials=[5], inputs=[7]))),
+    # another sort for a made constant: a word for bytes, as the Rust has it, a byte for a word, the operand's for an Ext, one byte more
+    wrong_sort('byte_and_as_a_word', 'byte_and_3_and_5_stays_a_byte_by_impl', (BYTE, 1), WORD),
+    wrong_sort('or_of_7_bytes_as_a_word', 'or_sort_17_top_half_and_1', (17, 2**55 + 1), WORD),
+    wrong_sort('word_and_as_a_byte', 'word_and_3_and_5_stays_a_word_by_impl', (WORD, 1), BYTE),
+    wrong_sort('ext_with_its_operands_sort', 'ext_of_a_made_byte_is_a_word_in_mode_0', (WORD, 1), BYTE),
+    wrong_sort('or_of_2_bytes_as_3', 'or_sort_12_top_half_and_1', (12, 2**15 + 1), 13),
+    wrong_sort('not_of_a_byte_as_a_word', 'not_of_a_made_byte_in_mode_0', (BYTE, 254), WORD),
 ]
 
 
