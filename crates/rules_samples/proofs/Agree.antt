@@ -1,4 +1,4 @@
--- The rules give the published Rust's answer on every sample, by computation.
+-- The rules give the published Rust's answer but for the departures on every sample, by computation.
 -- Assumes nothing.
 use mathlib.Core.Path.{_≡_, refl}
 use mathlib.Core.Bool.{true}
