@@ -1,5 +1,5 @@
-// Runs a program on random bytes, random numbers and mutated good cases, and demands one of its two answers each time: no signal, no
-// hang, nothing else printed.
+// Runs a program on random bytes, random numbers, mutated good cases and tables of bytes, and demands one of its two answers each time: no
+// signal, no hang, nothing else printed. Of an accepted one it demands that rows and replacements keep their sorts (rows.rs).
 //     rustc -O tests/harden.rs -o target/harden
 //     target/harden PROGRAM COUNT SEED [LIST]      LIST has the good cases, crates/replay/data/cases.list unless given
 use std::io::{Read, Write};
@@ -7,6 +7,8 @@ use std::process::{Command, ExitCode, Stdio};
 use std::sync::atomic::{AtomicU64, Ordering};
 use std::sync::Arc;
 use std::time::{Duration, Instant};
+
+mod rows;
 
 // How long it may take until some run ends.
 const PATIENCE: Duration = Duration::from_secs(20);
@@ -97,6 +99,42 @@ fn mutated(random: &mut Random, texts: &[Vec<u8>]) -> Vec<u8> {
     text
 }
 
+// A table of one sort of bytes: a bit, constants, an Input and a State, Nots, Ites, Ands and Ors over them, a Next, and two Bads on tests.
+fn bytes_table(random: &mut Random) -> Vec<u8> {
+    let sort = 11 + random.next() % 7;
+    let most = (1 << (8 * (sort - 10))) - 1;
+    let bit = if random.below(2) == 0 { [21, 1, 0, 0, 0, 1] } else { [1, 1, random.next() % 2, 0, 0, 0] };
+    let mut rows = vec![bit, [21, sort, 0, 0, 0, 1], [19, sort, 0, 0, 0, 0]];
+    rows.extend([0, 1, most - 1, most, random.next() & most].map(|number| [1, sort, number, 0, 0, 0]));
+    for _ in 0..1 + random.below(20) {
+        let count = rows.len() as u64 - 1;
+        let [a, b] = [1 + random.next() % count, 1 + random.next() % count];
+        rows.push(match random.below(8) {
+            0 => [18, sort, a, 0, 0, 0],
+            1 => [14, sort, 0, a, b, 0],
+            _ => [16 + random.next() % 2, sort, a, b, 0, 0],
+        });
+    }
+    let last = rows.len() as u64 - 1;
+    let init = 1 + random.next() % last;
+    // a State with its Next, then whether two of them as words are below one another, and whether that State is its next value
+    rows.extend([
+        [19, sort, init, 1, 0, 0],
+        [20, sort, last + 1, last, 0, 0],
+        [13, 2, last, sort, 0, 0],
+        [13, 2, init, sort, 0, 0],
+        [12, 1, last + 3, last + 4, 0, 0],
+        [22, 1, last + 5, 0, 0, 0],
+        [15, 1, last + 1, last, 0, 0],
+        [22, 1, last + 7, 0, 0, 0],
+    ]);
+    let mut numbers = vec![random.next() % 8, rows.len() as u64];
+    numbers.extend(rows.iter().flatten());
+    // the three lists, an input, two replies and a name
+    numbers.extend([1, last + 2, 1, last + 6, 1, last + 8, 1, random.next() & most, 2, 0, random.next() % 2, 1, 1, 120]);
+    numbers.iter().map(u64::to_string).collect::<Vec<_>>().join(" ").into_bytes()
+}
+
 // Runs the program; what it printed, or what went wrong.
 fn run(program: &str, text: &[u8]) -> Result<Vec<u8>, String> {
     let mut child = Command::new(program)
@@ -123,18 +161,34 @@ fn numbers(line: &str) -> Option<Vec<u64>> {
     line.split(' ').map(|number| number.parse().ok().filter(|n: &u64| n.to_string() == number)).collect()
 }
 
-// One of the two answers, in its exact form.
-fn is_answer(printed: &[u8]) -> bool {
-    let Ok(text) = std::str::from_utf8(printed) else { return false };
-    let Some(text) = text.strip_suffix('\n') else { return false };
+enum Answer {
+    Accepted(Vec<Vec<u64>>),
+    Refused,
+}
+
+// One of the two answers, in its exact form; sections without their counts.
+fn answer(printed: &[u8]) -> Option<Answer> {
+    let text = std::str::from_utf8(printed).ok()?.strip_suffix('\n')?;
     if let Some(rest) = text.strip_prefix("refused ") {
-        return numbers(rest).is_some_and(|n| n.len() == 3 && (1..=14).contains(&n[0]) && n[0] != 9 && n[1] <= 8);
+        let known = |n: &Vec<u64>| n.len() == 3 && (1..=14).contains(&n[0]) && n[0] != 9 && n[1] <= 8;
+        return numbers(rest).filter(known).map(|_| Answer::Refused);
     }
-    let lines: Vec<&str> = text.split('\n').collect();
-    let widths = [6, 2, 2, 1, 1, 1, 1, 4, 1];
-    lines.len() == 10
-        && lines[0] == "accepted"
-        && lines[1..].iter().zip(widths).all(|(line, width)| numbers(line).is_some_and(|n| n.len() as u64 == 1 + width * n[0]))
+    let mut sections = Vec::new();
+    for (line, width) in text.strip_prefix("accepted\n")?.split('\n').zip([6, 2, 2, 1, 1, 1, 1, 4, 1]) {
+        let section = numbers(line).filter(|n| n.len() as u64 == 1 + width * n[0])?;
+        sections.push(section[1..].to_vec());
+    }
+    (sections.len() == 9 && text.split('\n').count() == 10).then(|| Answer::Accepted(sections))
+}
+
+// Whether the program refuses a text, or what is wrong with its answer.
+fn refuses(program: &str, text: &[u8]) -> Result<bool, String> {
+    let printed = run(program, text)?;
+    match answer(&printed) {
+        None => Err(format!("prints {}", printed.escape_ascii())),
+        Some(Answer::Refused) => Ok(true),
+        Some(Answer::Accepted(sections)) => rows::judge(text, &sections).map(|()| false),
+    }
 }
 
 // Waits for all runs; false where none ends for so long.
@@ -169,19 +223,17 @@ fn main() -> ExitCode {
             std::thread::spawn(move || {
                 let mut random = Random(0x9E37_79B9_7F4A_7C15 ^ (2 * seed + worker + 1));
                 for case in (worker..count).step_by(2) {
-                    let text = match case / 2 % 4 {
+                    let text = match case / 2 % 5 {
                         0 => random_bytes(&mut random),
                         1 => random_numbers(&mut random),
                         2 => renumbered(&mut random, &texts),
-                        _ => mutated(&mut random, &texts),
+                        3 => mutated(&mut random, &texts),
+                        _ => bytes_table(&mut random),
                     };
-                    let kind = match run(&program, &text) {
-                        Ok(printed) if is_answer(&printed) => usize::from(printed.starts_with(b"refused")),
-                        other => {
-                            println!("wrong: {:?} for {}", other, text.escape_ascii());
-                            2
-                        }
-                    };
+                    let kind = refuses(&program, &text).map(usize::from).unwrap_or_else(|why| {
+                        println!("wrong: {why} for {}", text.escape_ascii());
+                        2
+                    });
                     tallies[kind].fetch_add(1, Ordering::Relaxed);
                 }
             })
