@@ -1,5 +1,6 @@
-/* The names of gemtweed.h: each kind computes what it is called, each sort, limit and mode is tried at its own value, each refusal is
- * drawn, and what is asked and tallied has its name. Prints how many checks there were, and each that fails. */
+/* The names of gemtweed.h: each kind computes what it is called, each sort, limit and mode is tried at its own value, a constant made for an
+ * And or an Or has its sort, each refusal is drawn, and what is asked and tallied has its name. Prints how many checks there were, and each
+ * that fails. */
 #include "gemtweed.h"
 #include <stdio.h>
 #include <string.h>
@@ -141,6 +142,40 @@ static void sorts(void)
         draws_alone(GEMTWEED_REFUSED_SORTS, GEMTWEED_CONST, GEMTWEED_BYTES(bytes), above, 0);
     }
     draws_alone(GEMTWEED_REFUSED_MALFORMED, GEMTWEED_CONST, GEMTWEED_BYTES(8), 0, 0);
+}
+
+/* The one constant made for a node of two constants of a sort has this number, and the node's sort. */
+static void makes(uint64_t kind, uint64_t sort, uint64_t left, uint64_t right, uint64_t number)
+{
+    enum { NODES = 5 };
+    const uint64_t *constants = result + 1 + 6 * NODES;
+    words[0] = NODES;
+    words_len = 1;
+    row(GEMTWEED_CONST, sort, left, 0, 0, 0);
+    row(GEMTWEED_CONST, sort, right, 0, 0, 0);
+    row(kind, sort, 0, 1, 0, 0);
+    row(GEMTWEED_EQ, GEMTWEED_BIT, 2, 0, 0, 0);
+    row(GEMTWEED_BAD, GEMTWEED_BIT, 3, 0, 0, 0);
+    entries(0, 0, 0);
+    entries(1, NODES - 1, 0);
+    for (int section = 4; section <= 6; section++)
+        entries(0, 0, 0);
+    gemtweed_answer answer = fold(0);
+    check(answer.number == GEMTWEED_ACCEPTED && constants[0] == 3, "made for kind", kind);
+    check(constants[5] == sort && constants[6] == number, "made of sort", sort);
+}
+
+static void made(void)
+{
+    put_names(0, 0);
+    makes(GEMTWEED_AND, GEMTWEED_BYTES(1), 3, 5, 1);
+    makes(GEMTWEED_AND, GEMTWEED_WORD, 3, 5, 1);
+    makes(GEMTWEED_OR, GEMTWEED_WORD, 3, 5, 7);
+    for (int bytes = 1; bytes <= 7; bytes++) {
+        uint64_t top = ((uint64_t)1 << 8 * bytes) - 1;
+        makes(GEMTWEED_AND, GEMTWEED_BYTES(bytes), top - 1, 2, 2);
+        makes(GEMTWEED_OR, GEMTWEED_BYTES(bytes), top - 1, 1, top);
+    }
 }
 
 /* So many entries in sections 1 to 6. Node 0 is a bit 0, node 1 a Bad on it; Nexts of states with an init follow, then Consts. */
@@ -307,6 +342,7 @@ int main(void)
 {
     kinds();
     sorts();
+    made();
     limits();
     refusals();
     questions();
