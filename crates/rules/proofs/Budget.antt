@@ -12,7 +12,7 @@ use Rattle.rules.specs.Room.{due, unpaid}
 use Rattle.rules.specs.Tally.{ifVisited, ifReplaced}
 use Rattle.rules.proofs.Base.{cases-cond, put-other}
 
-pub unpaid-same : (w : ℕ → ℕ) (c : ℕ) (f g : ℕ → Mark) → ((i : ℕ) → i < c → f i ≡ g i) → unpaid w c f ≡ unpaid w c g
+unpaid-same : (w : ℕ → ℕ) (c : ℕ) (f g : ℕ → Mark) → ((i : ℕ) → i < c → f i ≡ g i) → unpaid w c f ≡ unpaid w c g
 unfolding unpaid
 unpaid-same w zero f g h = refl
 unpaid-same w (suc c) f g h = ap₂ (λ a b. due (w c) a + b) (h c (omega arith)) (unpaid-same w c f g (λ i l. h i (omega arith)))

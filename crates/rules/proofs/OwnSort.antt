@@ -6,7 +6,6 @@ use mathlib.Core.Bool.{true}
 use mathlib.Core.Option.{none}
 use mathlib.Core.List.{List, map}
 use lib.ListN.{length, length-map, List·getD-map}
-use Rattle.rules.specs.Refusal.{done}
 use Rattle.rules.specs.Table.{Row, decode, coded}
 use Rattle.rules.specs.Check.{rule3, check}
 use Rattle.rules.specs.Model.{Model}
@@ -14,10 +13,10 @@ use Rattle.rules.specs.Legal.{noRow, rowAt}
 use Rattle.rules.specs.Legal as legal
 use Rattle.rules.specs.Laws.{ReplacementSort, MadeReplaces, GivenPass, RowsPass}
 use Rattle.rules.specs.Sections.{Sections}
-use Rattle.rules.specs.Names.{namesOf, dump}
+use Rattle.rules.specs.Names.{dump}
 use Rattle.rules.specs.Limits.{Limits}
-use Rattle.rules.specs.Call.{Entry, impl, withSolver, withInput, Call, Accepted, brought, modelFrom, outcome}
-use Rattle.rules.specs.OwnSort.{OwnSorts, OwnSortsOfCall}
+use Rattle.rules.specs.Call.{Entry, impl, withSolver, withInput, Call, Accepted, brought, modelFrom}
+use Rattle.rules.specs.OwnSort.{OwnSortsOfCall}
 use Rattle.rules.proofs.Check.{accepted}
 use Rattle.rules.proofs.Sections.{same-done}
 use Rattle.rules.proofs.Laws.{replacement-sort, made-replaces}

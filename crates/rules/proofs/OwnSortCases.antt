@@ -1,8 +1,8 @@
 -- Sorts at work and each part of what is said of them failing, by computation.
 -- Assumes nothing.
 use Prim.Native.Nat.{ℕ, zero, suc, _<_}
-use mathlib.Core.Path.{_≡_, refl, sym, ap, _∙_, subst}
-use mathlib.Core.Bool.{true, false, false≢true}
+use mathlib.Core.Path.{_≡_, refl}
+use mathlib.Core.Bool.{true, false≢true}
 use mathlib.Core.Logic.{⊎-elim}
 use mathlib.Core.List.{List, [], _∷_}
 use native.Mathlib.Omega.{arith}
@@ -13,22 +13,21 @@ use Rattle.btor.specs.Operators.{compute}
 use Rattle.btor.specs.Sorts.{width, ones}
 use Rattle.rules.specs.Lists.{sum, All}
 use Rattle.rules.specs.Refusal.{Out, refused, done}
-use Rattle.rules.specs.Table.{Eq, Row, constant}
+use Rattle.rules.specs.Table.{Row}
 use Rattle.rules.specs.Check.{rule3, checkNodes, checkSequentials, checkBads, check}
 use Rattle.rules.specs.Legal.{AllLegal, Once, rowAt}
 use Rattle.rules.specs.Walk.{Mark, kept, replaced, addConst}
 use Rattle.rules.specs.Questions.{ask, askOr}
 use Rattle.rules.specs.Visit.{visit1, visit2, visit3, settle, finishStay, finish, forward, takeInput, unary, binary, iteOn, process, visit}
-use Rattle.rules.specs.Whole.{judgeSequentials, visitAll, judgeBads, lastQuestion, foldBads, fold, run}
+use Rattle.rules.specs.Whole.{judgeSequentials, visitAll, judgeBads, foldBads, fold, run}
 use Rattle.rules.specs.Result.{gather, resultWords}
 use Rattle.rules.specs.Limits.{house}
 use Rattle.rules.specs.Sections.{rowsWords, encode, cutSection, rowsOf, cutSix, cut}
 use Rattle.rules.specs.Names.{cutNames, countedNames, namesOf, startsWith}
 use Rattle.rules.specs.Call.{impl, Accepted, judgeMode, judgeRoom, judgeAndFold, judgeCut, outcome}
 use Rattle.rules.specs.Laws.{MadeFor}
-use Rattle.rules.specs.Cases.{node}
 use Rattle.rules.specs.Worked.{OfAccepted}
-use Rattle.rules.specs.OwnSort.{OwnSortsOfCall, EachSort, byteCall, ByteStays, ByteWorked, ByteCanFail, mixedRows, FiveNeeded, unread, ThreeNeeded, listedRows, SixNeeded}
+use Rattle.rules.specs.OwnSort.{OwnSorts, OwnSortsOfCall, EachSort, byteCall, ByteStays, ByteWorked, ByteCanFail, mixedRows, FiveNeeded, unread, ThreeNeeded, listedRows, SixNeeded}
 use Rattle.rules.proofs.Base.{kept≢replaced}
 use Rattle.rules.proofs.Check.{all-legal}
 use Rattle.rules.proofs.OwnSort.{rows-given, own-sorts-of-call}
@@ -42,19 +41,17 @@ one-name : namesOf house (byteCall .names) ≡ done ([] ∷ [])
 unfolding namesOf countedNames cutNames
 one-name = refl
 
-came : OfAccepted (λ a. (a .folded .state .made ≡ 1) × (a .folded .state .rows 8 ≡ constant 11 1) × (a .folded .state .mark 2 ≡ replaced 8) × (a .folded .state .rows 4 ≡ node Eq 1 8 3 0)) (outcome house impl byteCall)
+worked : OfAccepted ByteStays (outcome house impl byteCall)
 unfolding outcome judgeMode encode rowsWords cut cutSix cutSection rowsOf namesOf countedNames cutNames judgeCut judgeRoom startsWith judgeAndFold run check checkNodes checkSequentials checkBads width ones fold foldBads judgeBads judgeSequentials visitAll ask askOr visit process settle finish finishStay unary binary visit1 visit2 iteOn takeInput
-came = (refl, refl, refl, refl)
+worked = record { count = refl; byte = refl; mark = refl; row = refl }
 
 pub byte-worked : ByteWorked
 unfolding ByteWorked OwnSortsOfCall
-byte-worked = go (outcome house impl byteCall) refl came
+byte-worked = (worked, go (outcome house impl byteCall) refl worked)
   where
-    go : (o : Out Accepted) → outcome house impl byteCall ≡ o
-        → OfAccepted (λ a. (a .folded .state .made ≡ 1) × (a .folded .state .rows 8 ≡ constant 11 1) × (a .folded .state .mark 2 ≡ replaced 8) × (a .folded .state .rows 4 ≡ node Eq 1 8 3 0)) o
-        → OfAccepted ByteStays o
+    go : (o : Out Accepted) → outcome house impl byteCall ≡ o → OfAccepted ByteStays o → OfAccepted (λ a. OwnSorts 1 (a .model .table) (a .folded .state)) o
     go (refused r) e h = h
-    go (done a) e h = record { count = h .0; byte = h .1; mark = h .2; row = h .3; sorts = own-sorts-of-call house impl byteCall a ([] ∷ []) e one-name }
+    go (done a) e h = own-sorts-of-call house impl byteCall a ([] ∷ []) e one-name
 
 -- ---- each part failing
 rows-three : (names : ℕ) (rs : List Row) → All (λ r. rule3 names r ≡ true) rs → (k : ℕ) → k < length rs → rule3 names (rowAt rs k) ≡ true
@@ -66,12 +63,12 @@ rows-three names (r ∷ rs) h (suc k) l = rows-three names rs (h .1) k (omega ar
 record Marks (a : Accepted) : Type 0 where
   nodes : length (a .model .table) ≡ 6
   made : a .folded .state .made ≡ 1
-  and! : a .folded .state .mark 2 ≡ replaced 8
+  by-and : a .folded .state .mark 2 ≡ replaced 8
   others : All (λ k. a .folded .state .mark k ≡ kept) (0 ∷ 1 ∷ 3 ∷ 4 ∷ 5 ∷ [])
 
 marked : OfAccepted Marks (outcome house impl byteCall)
 unfolding outcome judgeMode encode rowsWords cut cutSix cutSection rowsOf namesOf countedNames cutNames judgeCut judgeRoom startsWith judgeAndFold run check checkNodes checkSequentials checkBads width ones fold foldBads judgeBads judgeSequentials visitAll ask askOr visit process settle finish finishStay unary binary visit1 visit2 iteOn takeInput
-marked = record { nodes = refl; made = refl; and! = refl; others = (refl, (refl, (refl, (refl, (refl, tt))))) }
+marked = record { nodes = refl; made = refl; by-and = refl; others = (refl, (refl, (refl, (refl, (refl, tt))))) }
 
 made-fails : (o : Out Accepted) → OfAccepted Marks o → OfAccepted (λ a. MadeFor (a .model .table) (addConst (a .folded .state) 9 11 1) → ⊥) o
 made-fails (refused r) m = m
@@ -83,7 +80,7 @@ made-fails (done a) m = λ h. let w = h 9 (omega (arith, m .nodes)) (omega (arit
     go : (k : ℕ) → k < 6 → mark k ≡ replaced 9 → ⊥
     go zero l q = kept≢replaced 9 (mark 0) (m .others .0) q
     go (suc zero) l q = kept≢replaced 9 (mark 1) (m .others .1 .0) q
-    go (suc (suc zero)) l q = let e = m .and! in let z : _≡_ {A = ℕ} 8 9 = cc in omega arith
+    go (suc (suc zero)) l q = let e = m .by-and in let z : _≡_ {A = ℕ} 8 9 = cc in omega arith
     go (suc (suc (suc zero))) l q = kept≢replaced 9 (mark 3) (m .others .1 .1 .0) q
     go (suc (suc (suc (suc zero)))) l q = kept≢replaced 9 (mark 4) (m .others .1 .1 .1 .0) q
     go (suc (suc (suc (suc (suc zero))))) l q = kept≢replaced 9 (mark 5) (m .others .1 .1 .1 .1 .0) q

@@ -11,13 +11,10 @@ use lib.Dec.{leb, eqb}
 use borrow.Author.Tests.{lt-ltb, ne-eqb, le-leb}
 use Rattle.btor.specs.Sorts.{width}
 use Rattle.rules.specs.Lists.{allTrue, every, All}
-use Rattle.rules.specs.Refusal.{done}
-use Rattle.rules.specs.Table.{Kind, Const, Read, Write, Word, Ult, Ext, Ite, Eq, And, Or, Not, State, Next, Input, Bad, Row, Node, decode, coded, kindOf, kindCode, is, constant, nodeAt, operandsAs, operands, fits}
+use Rattle.rules.specs.Table.{Kind, Const, Read, Write, Word, Ult, Ext, Ite, Eq, And, Or, Not, State, Next, Input, Bad, Row, Node, decode, coded, kindCode, is, constant, nodeAt, operandsAs, operands, fits}
 use Rattle.rules.specs.Check.{knownKind, knownSort, unusedAs, named, rule3, mayServe, sortedAs, rule5At}
-use Rattle.rules.specs.Model.{Model, Mode}
-use Rattle.rules.specs.Legal.{AllLegal, WellFormed}
+use Rattle.rules.specs.Legal.{AllLegal}
 use Rattle.rules.specs.Walk.{St}
-use Rattle.rules.specs.Whole.{Folded, fold}
 use Rattle.rules.specs.Laws.{IsNew, SameNode, RowKeeps, OperandsBelow, MadeRow, Passes, RowsPass}
 use Rattle.rules.proofs.Base.{no, and-both, inside-or-past, kind-of-code, code-of-kind, is-kind, kind-is}
 use Rattle.rules.proofs.Standing.{Refs}

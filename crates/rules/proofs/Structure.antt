@@ -18,7 +18,7 @@ use Rattle.rules.specs.Refusal.{Out, _>>=_}
 use Rattle.rules.specs.Table.{Kind, Const, Read, Write, Word, Ult, Ext, Ite, Eq, And, Or, Not, State, Next, Input, Bad, Node, with, constant, nodeAt, is, operands, fits}
 use Rattle.rules.specs.Check.{knownSort, unusedAs, mayServe}
 use Rattle.rules.specs.Legal.{Legal, AllLegal}
-use Rattle.rules.specs.Walk.{St, Mark, fresh, kept, replaced, Held, setRow, setMark, addConst, setInputs, addHeld, addTally}
+use Rattle.rules.specs.Walk.{St, Mark, fresh, kept, replaced, Held, setRow, addConst, setInputs, addHeld, addTally}
 use Rattle.rules.specs.Fold.{Fold, stays, swap, make, constOf, foldWords, foldTest, foldEq, foldAnd, foldOr, foldNot, foldExt}
 use Rattle.rules.specs.Memory.{Found, find, foldFound, passedBy}
 use Rattle.rules.specs.Questions.{quiet}
@@ -28,7 +28,7 @@ use Rattle.rules.specs.Room.{due}
 use Rattle.btor.proofs.Agreement.{cases}
 use Rattle.rules.proofs.Base.{mk, all-join, If, if-bind, put-same, put-other}
 use Rattle.rules.proofs.Standing.{Below, Stands, Ref, Refs, FoldStands, ConstFits, stands-itself, stands-row, stands-const, own-fold, words-fold, test-fold, eq-fold, not-fold, ext-fold, const-fold, and-fold, or-fold}
-use Rattle.rules.proofs.Budget.{unpaid-same, unpaid-put, credit-put, credit-replaced}
+use Rattle.rules.proofs.Budget.{unpaid-put, credit-put, credit-replaced}
 use Rattle.rules.proofs.Search.{Strict, looked-writes, found-fold, find-among, strict-zero, tally-strict}
 use Rattle.rules.proofs.Questions.{Asks, quiet-asks, bit-asks, and-asks, ite-asks}
 use Rattle.rules.proofs.Went.{fee, Fine, At, Later, Went, went-none, went-both, Visited}

@@ -50,10 +50,10 @@ pub record ByteStays (a : Accepted) : Type 0 where
   pub byte : a .folded .state .rows 8 ≡ constant 11 1
   pub mark : a .folded .state .mark 2 ≡ replaced 8
   pub row : a .folded .state .rows 4 ≡ node Eq 1 8 3 0
-  pub sorts : OwnSorts 1 (a .model .table) (a .folded .state)
 
+-- with what the theorem says of it
 unfoldable pub ByteWorked : Type 0
-ByteWorked = OfAccepted ByteStays (outcome house impl byteCall)
+ByteWorked = OfAccepted ByteStays (outcome house impl byteCall) × OfAccepted (λ a. OwnSorts 1 (a .model .table) (a .folded .state)) (outcome house impl byteCall)
 
 -- ---- each part can fail: the same with one word, row or constant more or otherwise
 module _ (t : List Node) (σ : St) where
