@@ -1,4 +1,4 @@
-// Random cases, asked of a program and of the published Rust; what was asked, and each difference.
+// Random cases, asked of a program and of the published Rust; what was asked, how often a departure was met, and each other difference.
 //     compare PROGRAM COUNT [SEED]     the exit status is 1 if anything differs, 2 if it could not be asked
 
 use judge::answer::{hide_refusals, judged, printed, Answer};

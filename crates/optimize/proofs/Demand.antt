@@ -53,27 +53,30 @@ module _ (m : Model) (how : Mode) (f : Folded) (wf : WellFormed m) (e : fold m h
       ap (λ j. getD (replacementsOn Q) j 0) e₂ ∙ sym (getD-drop 1 (replacementsOn Q) (2 * i + 1) 0) ∙ back .replacements i l .second
 
   -- ---- sorts, by the words and by the fold
-  sort-same : (k : ℕ) → k < length t → (r : ℕ) → (r < k) ⊎ IsNew t σ r → sortIn (length t) Q r ≡ σ .rows r .sort
+  sort-in-words : (k : ℕ) → k < length t → (r : ℕ) → (r < k) ⊎ IsNew t σ r → sortIn (length t) Q r ≡ σ .rows r .sort
   unfolding sortIn
-  sort-same k l r (inl h) =
+  sort-in-words k l r (inl h) =
       let i : r < length t = omega arith in
       let q : sortIn (length t) Q r ≡ nodeOf Q r .sort = simp (lt-ltb r (length t) i) in
       q ∙ ap (λ (nd : Node). nd .sort) (back .rows r i)
-  sort-same k l r (inr h) =
+  sort-in-words k l r (inr h) =
       let q : sortIn (length t) Q r ≡ getD (constantsOn Q) (1 + 2 * (r - length t)) 0 = simp (le-ltb r (length t) (h .0)) in
       let z : length t + (r - length t) ≡ r = omega (arith, h .0) in
       q ∙ back .sorts (r - length t) (omega (arith, h .0, h .1)) ∙ ap (λ j. σ .rows j .sort) z
 
+  row-sorted : (k : ℕ) → k < length t → nodeOf Q k .sort ≡ nodeAt t k .sort
+  unfolding RowKeeps
+  row-sorted k l = ap (λ (nd : Node). nd .sort) (back .rows k l) ∙ row-keeps m how f wf e k l .sort
+
+  pair-sorted : (i : ℕ) → i < countOf (replacementsOn Q) → sortIn (length t) Q (getD (replacementsOn Q) (2 + 2 * i) 0) ≡ nodeAt t (getD (replacementsOn Q) (1 + 2 * i) 0) .sort
+  unfolding ReplacementBefore ReplacementSort
+  pair-sorted i l =
+      let p = back .replacements i l in
+      ap (sortIn (length t) Q) (pair-second i l) ∙ sort-in-words (p .node) (p .inside) (p .by) (replacement-before m how f wf e (p .node) (p .by) (p .inside) (p .marked))
+      ∙ replacement-sort m how f wf e (p .node) (p .by) (p .inside) (p .marked) ∙ ap (λ k. nodeAt t k .sort) (sym (pair-first i l))
+
   words-sorted : SortsIn t Q
-  unfolding ReplacementBefore ReplacementSort RowKeeps
-  words-sorted =
-      record {
-        rows = λ k l. ap (λ (nd : Node). nd .sort) (back .rows k l) ∙ row-keeps m how f wf e k l .sort;
-        replacements = λ i l.
-            let p = back .replacements i l in
-            ap (sortIn (length t) Q) (pair-second i l) ∙ sort-same (p .node) (p .inside) (p .by) (replacement-before m how f wf e (p .node) (p .by) (p .inside) (p .marked))
-            ∙ replacement-sort m how f wf e (p .node) (p .by) (p .inside) (p .marked) ∙ ap (λ k. nodeAt t k .sort) (sym (pair-first i l));
-      }
+  words-sorted = record { rows = row-sorted; replacements = pair-sorted }
 
   module _ (R : Reading) (α : ℕ → Value) where
     abbrev v : ℕ → Value

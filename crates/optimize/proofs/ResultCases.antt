@@ -1,18 +1,20 @@
 -- The example of docs/FORMAT.md, "Noon, by hand", as the walk leaves it in the buffers: the nine sections are its lines, whatever stands in the unused words.
--- By computation; the last theorem shows that what `write_result` asks of the buffers can be met.
+-- That what `write_result` asks of the buffers can be met, and that what is said of the sorts in a result can fail. By computation.
 -- Assumes nothing.
-use Prim.Native.Nat.{ℕ, zero, suc, _+_, _<_}
+use Prim.Native.Nat.{ℕ, zero, suc, _+_, _*_, _<_}
 use mathlib.Core.Path.{_≡_, refl}
 use mathlib.Core.Bool.{false}
 use mathlib.Core.List.{List, [], _∷_, _++_, flatten}
 use native.Mathlib.Omega.{arith}
 use lib.Dec.{lit<, lit≤}
-use lib.ListN.{replicate}
+use lib.ListN.{getD, replicate}
+use borrow.Author.Tests.{eqb-false}
 use Rattle.rules.specs.Lists.{sum}
-use Rattle.rules.specs.Table.{kindOf, kindCode}
+use Rattle.rules.specs.Table.{kindOf, kindCode, nodeAt}
 use Rattle.rules.specs.Model.{Model}
 use Rattle.rules.specs.Result.{gather, questionWords, resultWords}
-use Rattle.optimize.specs.View.{wordOf, firsts, tableOf, rowsOf, markOf, view}
+use Rattle.optimize.specs.View.{wordOf, nodeOf, firsts, tableOf, rowsOf, markOf, view}
+use Rattle.optimize.specs.Demand.{replacementsOn, sortIn, byteTable, wordsWith, SortsCanFail}
 use Rattle.optimize.specs.ResultView.{Finished, ModelOf, foldedIn}
 use Rattle.optimize.specs.declared.walk.Walk.{Walk}
 use Rattle.optimize.specs.declared.result.Kept.{Kept}
@@ -79,3 +81,21 @@ example-finished x =
 pub example-model : ModelOf given (12 ∷ []) [] model
 unfolding tableOf firsts
 example-model = record { nodes = refl; inputs = refl; replies = refl }
+
+-- ---- sorts in the words of a result
+pub sorts-can-fail : SortsCanFail
+unfolding SortsCanFail sortIn
+sorts-can-fail = (
+  record { rows = row; replacements = pair },
+  (λ h. eqb-false 2 11 refl (h .replacements 0 (lit< tt))),
+  λ h. eqb-false 12 11 refl (h .rows 0 (lit< tt)),
+)
+  where
+    row : (k : ℕ) → k < 2 → nodeOf (wordsWith 11 11) k .sort ≡ nodeAt byteTable k .sort
+    row zero l = refl
+    row (suc zero) l = refl
+    row (suc (suc k)) l = let o : ⊥ = omega arith in absurd o
+
+    pair : (i : ℕ) → i < 1 → sortIn 2 (wordsWith 11 11) (getD (replacementsOn (wordsWith 11 11)) (2 + 2 * i) 0) ≡ nodeAt byteTable (getD (replacementsOn (wordsWith 11 11)) (1 + 2 * i) 0) .sort
+    pair zero l = refl
+    pair (suc i) l = let o : ⊥ = omega arith in absurd o

@@ -2,7 +2,7 @@
 --     Contract          what the contracts in optimize.rt say of a call and of what it left
 --     after, listIn, worthIn     a result's words read back, section by section     Dropped    a bad state that a kept list lacks
 --     KeepsIn           what is concluded of the words        Demand3OfResult    the demand, with no premise but its own
---     SortsIn           the sorts in the words, of every accepted call
+--     SortsIn           the sorts in the words, of every accepted call        SortsCanFail    words of which it holds, and two with another sort of which it fails
 -- What is visited, replaced, asked or dropped follows from the rules on what a call is given, never from a result: the premises are of the rules' fold.
 -- Assumes nothing.
 use Prim.Native.Nat.{ℕ, _+_, _-_, _*_, _<_}
@@ -15,7 +15,7 @@ use lib.Dec.{ltb, eqb}
 use Rattle.btor.specs.Operators.{Reading, bit}
 use Rattle.rules.specs.Refusal.{done}
 use Rattle.rules.specs.Limits.{house}
-use Rattle.rules.specs.Table.{Node, nodeAt}
+use Rattle.rules.specs.Table.{And, Node, constant, nodeAt}
 use Rattle.rules.specs.Model.{Model}
 use Rattle.rules.specs.Value.{Value, number, worth, value}
 use Rattle.rules.specs.Call.{Entry, Call, Accepted, outcome, wordsOf, left, FaithfulTo, Premises}
@@ -82,6 +82,16 @@ pub record SortsIn (t : List Node) (Q : List ℕ) : Type 0 where
   pub rows : (k : ℕ) → k < length t → nodeOf Q k .sort ≡ nodeAt t k .sort
   pub replacements : (i : ℕ) → i < countOf (replacementsOn Q)
       → sortIn (length t) Q (getD (replacementsOn Q) (2 + 2 * i) 0) ≡ nodeAt t (getD (replacementsOn Q) (1 + 2 * i) 0) .sort
+
+-- the byte 3, its And with itself, and the words of a result for them, with the sorts of row 0 and of the constant made for the And
+abbrev pub byteTable : List Node
+byteTable = constant 11 3 ∷ record { kind = And; sort = 11; a = 0; b = 0; c = 0; name = 0 } ∷ []
+
+abbrev pub wordsWith : ℕ → ℕ → List ℕ
+wordsWith row made = 2 ∷ 1 ∷ row ∷ 3 ∷ 0 ∷ 0 ∷ 0 ∷ 16 ∷ 11 ∷ 0 ∷ 0 ∷ 0 ∷ 0 ∷ 3 ∷ 1 ∷ 0 ∷ 1 ∷ 1 ∷ made ∷ 3 ∷ 1 ∷ 1 ∷ 4 ∷ []
+
+unfoldable pub SortsCanFail : Type 0
+SortsCanFail = SortsIn byteTable (wordsWith 11 11) × (SortsIn byteTable (wordsWith 11 2) → ⊥) × (SortsIn byteTable (wordsWith 12 11) → ⊥)
 
 -- a call that answered `Done count` is one that the rules accept, the result holds the rules' words and zeros after them, and they keep sorts and values
 pub record Kept (entry : Entry) (call : Call) (count : ℕ) (Q : List ℕ) : Type 0 where

@@ -2,9 +2,9 @@
 -- Each refusal is the first of a list; where none is drawn, every test of the list held.
 -- Assumes nothing.
 use Prim.Native.Nat.{ℕ, zero, suc, _+_, _<_}
-use mathlib.Core.Path.{_≡_, refl, sym, _∙_, subst}
+use mathlib.Core.Path.{_≡_, refl, sym, ap, _∙_, subst}
 use mathlib.Core.Logic.{_≢_}
-use mathlib.Core.Bool.{Bool, true, false, _||_, not}
+use mathlib.Core.Bool.{Bool, true, false, _&&_, _||_, not}
 use mathlib.Core.Option.{Option, none, some}
 use mathlib.Core.List.{List, [], _∷_, map}
 use native.Mathlib.Omega.{arith}
@@ -28,6 +28,16 @@ each : (p : ℕ → Bool) (xs : List ℕ) → every p xs ≡ true → All (λ x.
 each p [] e = tt
 each p (x ∷ xs) e = let q = and-both (p x) (every p xs) e in (q .0, each p xs (q .1))
 
+-- ---- and held
+pub all-hold : (bs : List Bool) → All (λ b. b ≡ true) bs → allTrue bs ≡ true
+all-hold [] h = refl
+all-hold (b ∷ bs) h = ap (λ x. x && allTrue bs) (h .0) ∙ all-hold bs (h .1)
+
+pub every-holds : (p : ℕ → Bool) (xs : List ℕ) → All (λ x. p x ≡ true) xs → every p xs ≡ true
+every-holds p [] h = refl
+every-holds p (x ∷ xs) h = ap (λ b. b && every p xs) (h .0) ∙ every-holds p xs (h .1)
+
+-- ---- refusals
 some≢none : {A B : Type 0} (x : A) → some x ≡ none → B
 some≢none x e = let z : _≡_ {A = ℕ} 0 1 = cc in let o : ⊥ = omega arith in absurd o
 

@@ -11,7 +11,7 @@ use Rattle.rules.specs.Check.{rule3, check}
 use Rattle.rules.specs.Model.{Model}
 use Rattle.rules.specs.Legal.{noRow, rowAt}
 use Rattle.rules.specs.Legal as legal
-use Rattle.rules.specs.Laws.{ReplacementSort, MadeReplaces, GivenPass, RowsPass}
+use Rattle.rules.specs.Laws.{ReplacementSort, MadeReplaces, MadeFits, RowKeeps, GivenPass, RowsPass}
 use Rattle.rules.specs.Sections.{Sections}
 use Rattle.rules.specs.Names.{dump}
 use Rattle.rules.specs.Limits.{Limits}
@@ -19,7 +19,7 @@ use Rattle.rules.specs.Call.{Entry, impl, withSolver, withInput, Call, A
 use Rattle.rules.specs.OwnSort.{OwnSortsOfCall}
 use Rattle.rules.proofs.Check.{accepted}
 use Rattle.rules.proofs.Sections.{same-done}
-use Rattle.rules.proofs.Laws.{replacement-sort, made-replaces}
+use Rattle.rules.proofs.Laws.{replacement-sort, made-replaces, made-fits, row-keeps}
 use Rattle.rules.proofs.Passes.{decoded-three, rows-pass}
 use Rattle.rules.proofs.Call.{passed, call-formed}
 
@@ -40,7 +40,7 @@ same-rows withInput names s = refl
 
 -- ---- the theorem
 pub own-sorts-of-call : OwnSortsOfCall
-unfolding OwnSortsOfCall ReplacementSort MadeReplaces RowsPass
+unfolding OwnSortsOfCall ReplacementSort MadeReplaces MadeFits RowKeeps RowsPass
 own-sorts-of-call limits entry call a names e n =
     let p = passed limits entry call a e in
     let wf = call-formed limits entry call a p in
@@ -51,5 +51,7 @@ own-sorts-of-call limits entry call a names e n =
     record {
       replacements = replacement-sort (a .model) (a .how) (a .folded) wf (p .folds);
       made = made-replaces (a .model) (a .how) (a .folded) wf (p .folds);
+      constants = made-fits (a .model) (a .how) (a .folded) wf (p .folds);
+      kept = row-keeps (a .model) (a .how) (a .folded) wf (p .folds);
       rows = rows-pass (length names) (a .model) (a .how) (a .folded) wf given (p .folds);
     }

@@ -17,6 +17,7 @@ use Rattle.rules.specs.Legal.{AllLegal}
 use Rattle.rules.specs.Walk.{St}
 use Rattle.rules.specs.Laws.{IsNew, SameNode, RowKeeps, OperandsBelow, MadeRow, Passes, RowsPass}
 use Rattle.rules.proofs.Base.{no, and-both, inside-or-past, kind-of-code, code-of-kind, is-kind, kind-is}
+use Rattle.rules.proofs.Check.{all-hold, every-holds}
 use Rattle.rules.proofs.Standing.{Refs}
 use Rattle.rules.proofs.Shape.{Shape, stands-sort, stands-serves}
 use Rattle.rules.proofs.Laws.{the-shape, row-keeps, operands-below}
@@ -84,15 +85,6 @@ module _ (at given : ℕ → Node) where
   same-sorts Next nd g s e n h = let q = n (kind-is Next g e) in λ i. q i ∷ eqb (h .0 i) (s .sort i) ∷ eqb (h .1 .0 i) (s .sort i) ∷ []
   same-sorts Input nd g s e n h = refl
   same-sorts Bad nd g s e n h = λ i. eqb (s .sort i) 1 ∷ eqb (h .0 i) 1 ∷ []
-
--- ---- tests that hold
-all-hold : (bs : List Bool) → All (λ b. b ≡ true) bs → allTrue bs ≡ true
-all-hold [] h = refl
-all-hold (b ∷ bs) h = ap (λ x. x && allTrue bs) (h .0) ∙ all-hold bs (h .1)
-
-every-holds : (p : ℕ → Bool) (xs : List ℕ) → All (λ x. p x ≡ true) xs → every p xs ≡ true
-every-holds p [] h = refl
-every-holds p (x ∷ xs) h = ap (λ b. b && every p xs) (h .0) ∙ every-holds p xs (h .1)
 
 five-holds : (at : ℕ → Node) (nd : Node) → All (λ x. mayServe (at x) ≡ true) (operands nd) → All (λ b. b ≡ true) (sortedAs at (nd .kind) nd) → rule5At at nd ≡ true
 five-holds at nd h g = ap (λ b. b && allTrue (sortedAs at (nd .kind) nd)) (every-holds (λ x. mayServe (at x)) (operands nd) h) ∙ all-hold (sortedAs at (nd .kind) nd) g

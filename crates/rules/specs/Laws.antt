@@ -63,8 +63,11 @@ pub record MadeRow (nd : Node) : Type 0 where
   pub sort : nd .sort ≢ 3
   pub fits : nd .a < 2 ^ width (nd .sort)
 
+abbrev pub AllMade : List Node → St → Type 0
+AllMade t σ = (r : ℕ) → IsNew t σ r → MadeRow (σ .rows r)
+
 unfoldable pub MadeFits : Type 0
-MadeFits = OfFolds (λ t σ. (r : ℕ) → IsNew t σ r → MadeRow (σ .rows r))
+MadeFits = OfFolds AllMade
 
 -- a rewritten row keeps its kind, sort, name and unused words, a Const its number, an Ext its from, a State its b, a Next its state
 pub record SameNode (nd g : Node) : Type 0 where
@@ -77,8 +80,11 @@ pub record SameNode (nd g : Node) : Type 0 where
   pub state : is Next g ≡ true → nd .a ≡ g .a
   pub unused : unusedAs (g .kind) nd ≡ unusedAs (g .kind) g
 
+abbrev pub AllKept : List Node → St → Type 0
+AllKept t σ = (k : ℕ) → k < length t → SameNode (σ .rows k) (nodeAt t k)
+
 unfoldable pub RowKeeps : Type 0
-RowKeeps = OfFolds (λ t σ. (k : ℕ) → k < length t → SameNode (σ .rows k) (nodeAt t k))
+RowKeeps = OfFolds AllKept
 
 -- each operand of a rewritten row is below the row or a constant
 unfoldable pub OperandsBelow : Type 0
@@ -90,10 +96,11 @@ pub record Passes (names : ℕ) (t : List Node) (σ : St) (k : ℕ) : Type 0 whe
   pub before : All (λ x. (x < k) ⊎ IsNew t σ x) (operands (σ .rows k))
   pub five : rule5At (σ .rows) (σ .rows k) ≡ true
 
--- every rewritten row and every constant does, if the given rows pass rule 3
+-- every rewritten row and every constant does
 abbrev pub AllPass : ℕ → List Node → St → Type 0
 AllPass names t σ = (k : ℕ) → k < length t + 2 + σ .made → Passes names t σ k
 
+-- they do if the given rows pass rule 3
 abbrev pub GivenPass : ℕ → List Node → Type 0
 GivenPass names t = (k : ℕ) → k < length t → rule3 names (coded (nodeAt t k)) ≡ true
 

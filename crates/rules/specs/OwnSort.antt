@@ -1,32 +1,36 @@
 -- A constant has its node's own sort, and what a call leaves passes the rules of sorts again (docs/FORMAT.md, "Folding", "What you may rely on").
 --     OwnSorts, OwnSortsOfCall    replacements, made constants and rows of every accepted call, by any entry point and in any mode
 --     EachSort, ByteWorked        And and Or of each sort; a call with a byte that stays a byte
---     CanFail                     what is left with one word changed, as the Rust's 64-bit word for that byte, fails each of them
---     FiveNeeded, ThreeNeeded, SixNeeded    each premise is needed: a model without it, of which they fail
+--     CanFail                     what is left with little changed, as the Rust's 64-bit word for that byte, fails each of them
+--     FiveNeeded, ThreeNeeded, SixNeeded    rules 5, 3 and 6 are needed: a model that is refused by that one alone, of which they fail
 -- Assumes nothing.
 use Prim.Native.Nat.{ℕ}
 use mathlib.Core.Path.{_≡_}
 use mathlib.Core.Bool.{false}
+use mathlib.Core.Option.{some}
 use mathlib.Core.List.{List, [], _∷_}
 use lib.ListN.{length}
 use Rattle.rules.specs.Lists.{All}
 use Rattle.rules.specs.Refusal.{Out, refused, done}
-use Rattle.rules.specs.Table.{Eq, And, Row, Node, constant}
+use Rattle.rules.specs.Table.{Eq, And, Input, Bad, Row, Node, constant}
 use Rattle.rules.specs.Model.{Model, modelOf}
+use Rattle.rules.specs.Check.{check}
 use Rattle.rules.specs.Legal.{AllLegal, WellFormed}
-use Rattle.rules.specs.Walk.{St, replaced, setRow, addConst}
+use Rattle.rules.specs.Walk.{St, fresh, replaced, setRow, setMark, addConst}
 use Rattle.rules.specs.Whole.{Folded, fold}
-use Rattle.rules.specs.Laws.{SortsKept, MadeFor, AllPass, GivenPass}
+use Rattle.rules.specs.Laws.{SortsKept, MadeFor, AllMade, AllKept, AllPass, GivenPass}
 use Rattle.rules.specs.Names.{namesOf}
 use Rattle.rules.specs.Limits.{Limits, house}
-use Rattle.rules.specs.Call.{Entry, impl, Call, Accepted, outcome}
-use Rattle.rules.specs.Cases.{row, node, mode0, callOn, Tells, oneMade, only, onTwo}
+use Rattle.rules.specs.Call.{Entry, impl, withSolver, withInput, Call, Accepted, outcome}
+use Rattle.rules.specs.Cases.{row, node, mode0, callOf, Tells, oneMade, only, onTwo}
 use Rattle.rules.specs.Worked.{OfAccepted}
 
 -- ---- the theorem
 pub record OwnSorts (names : ℕ) (t : List Node) (σ : St) : Type 0 where
   pub replacements : SortsKept t σ
   pub made : MadeFor t σ
+  pub constants : AllMade t σ
+  pub kept : AllKept t σ
   pub rows : AllPass names t σ
 
 unfoldable pub OwnSortsOfCall : Type 0
@@ -42,8 +46,8 @@ unfoldable pub EachSort : Type 0
 EachSort = All Stays (2 ∷ 11 ∷ 12 ∷ 13 ∷ 14 ∷ 15 ∷ 16 ∷ 17 ∷ [])
 
 -- ---- 0 and 1 the bytes 3 and 5, 2 their And, 3 an Input, 4 whether 2 is 3, 5 a Bad on that: 8 is the byte 1, made for 2
-abbrev pub byteCall : Call
-byteCall = callOn (onTwo 16 11 3 5)
+abbrev pub byteCall : ℕ → Call
+byteCall mode = callOf mode (record { rows = onTwo 16 11 3 5; sequentials = []; initial = 5 ∷ []; later = []; inputs = []; replies = [] })
 
 pub record ByteStays (a : Accepted) : Type 0 where
   pub count : a .folded .state .made ≡ 1
@@ -51,25 +55,54 @@ pub record ByteStays (a : Accepted) : Type 0 where
   pub mark : a .folded .state .mark 2 ≡ replaced 8
   pub row : a .folded .state .rows 4 ≡ node Eq 1 8 3 0
 
--- with what the theorem says of it
+-- what the theorem says of it, each part by its own name
+pub record Said (a : Accepted) : Type 0 where
+  pub replacements : SortsKept (a .model .table) (a .folded .state)
+  pub made : MadeFor (a .model .table) (a .folded .state)
+  pub constants : AllMade (a .model .table) (a .folded .state)
+  pub kept : AllKept (a .model .table) (a .folded .state)
+  pub rows : AllPass 1 (a .model .table) (a .folded .state)
+
+-- limits that the call just meets
+abbrev pub tight : Limits
+tight = record { nodes = 6; entries = 1; inputs = 0; replies = 0; names = 1; nameLength = 0 }
+
+abbrev pub WorkedBy : Limits → Entry → ℕ → Type 0
+WorkedBy limits entry mode = OfAccepted ByteStays (outcome limits entry (byteCall mode)) × OfAccepted Said (outcome limits entry (byteCall mode))
+
+-- by each entry point, with the house's limits and others, in the first mode, the last and another
 unfoldable pub ByteWorked : Type 0
-ByteWorked = OfAccepted ByteStays (outcome house impl byteCall) × OfAccepted (λ a. OwnSorts 1 (a .model .table) (a .folded .state)) (outcome house impl byteCall)
+ByteWorked = WorkedBy house impl 0 × WorkedBy house withSolver 7 × WorkedBy tight withInput 5
 
 -- ---- each part can fail: the same with one word, row or constant more or otherwise
+abbrev pub input : ℕ → ℕ → ℕ → Node
+input s x nm = record { kind = Input; sort = s; a = x; b = 0; c = 0; name = nm }
+
 module _ (t : List Node) (σ : St) where
-  -- the Rust's word of 64 bits for the byte; a constant that stands for no node, or is too wide; 4 with an unused word; 2 with an operand behind it
+  -- the Rust's word of 64 bits for the byte; a constant that stands for no node, is too wide, or is none; 4 with an unused word; 2 with itself for operand;
+  -- 4 with an operand that is not in use, or is a Bad; 4 unvisited, of a byte and a bit, or with itself for operand; 3 of no sort; no name lent;
+  -- 3 with an unused word, or without its name
   pub record CanFail : Type 0 where
     pub replacements : SortsKept t (setRow σ 8 (constant 2 1)) → ⊥
     pub made : MadeFor t (addConst σ 9 11 1) → ⊥
     pub five : AllPass 1 t (setRow σ 8 (constant 2 1)) → ⊥
     pub wide : AllPass 1 t (setRow σ 8 (constant 11 256)) → ⊥
     pub three : AllPass 1 t (setRow σ 4 (node Eq 1 8 3 1)) → ⊥
-    pub before : AllPass 1 t (setRow σ 2 (node And 11 0 3 0)) → ⊥
+    pub before : AllPass 1 t (setRow σ 2 (node And 11 0 2 0)) → ⊥
+    pub used : AllPass 1 t (setRow (setRow σ 9 (constant 11 1)) 4 (node Eq 1 9 3 0)) → ⊥
+    pub serves : AllPass 1 t (setRow (setRow σ 3 (node Bad 1 6 0 0)) 4 (node Eq 1 6 3 0)) → ⊥
+    pub unvisitedFive : AllPass 1 t (setRow (setMark σ 4 fresh) 4 (node Eq 1 8 6 0)) → ⊥
+    pub unvisitedBefore : AllPass 1 t (setRow (setMark σ 4 fresh) 4 (node Eq 1 4 4 0)) → ⊥
+    pub known : AllPass 1 t (setRow (setRow σ 3 (input 9 0 1)) 4 (node Eq 1 3 3 0)) → ⊥
+    pub named : AllPass 0 t σ → ⊥
+    pub constants : AllMade t (setRow σ 8 (node Input 11 1 0 0)) → ⊥
+    pub words : AllKept t (setRow σ 3 (input 11 7 1)) → ⊥
+    pub names : AllKept t (setRow σ 3 (input 11 0 0)) → ⊥
 
 unfoldable pub ByteCanFail : Type 0
-ByteCanFail = OfAccepted (λ a. CanFail (a .model .table) (a .folded .state)) (outcome house impl byteCall)
+ByteCanFail = OfAccepted (λ a. CanFail (a .model .table) (a .folded .state)) (outcome house impl (byteCall 0))
 
--- ---- each premise is needed
+-- ---- rules 5, 3 and 6 are needed
 abbrev pub OfFold : (Folded → Type 0) → Out Folded → Type 0
 OfFold P (refused r) = ⊥
 OfFold P (done f) = P f
@@ -85,14 +118,21 @@ abbrev pub mixed : Model
 mixed = modelAt mixedRows [] (5 ∷ [])
 
 unfoldable pub FiveNeeded : Type 0
-FiveNeeded = GivenPass 1 (mixed .table) × OfFold (λ f. (SortsKept (mixed .table) (f .state) → ⊥) × (AllPass 1 (mixed .table) (f .state) → ⊥)) (fold mixed mode0)
+FiveNeeded =
+    (check 1 mixedRows mixed ≡ some (record { reason = 5; section = 1; position = 2 })) × GivenPass 1 (mixed .table)
+    × OfFold (λ f. (SortsKept (mixed .table) (f .state) → ⊥) × (AllPass 1 (mixed .table) (f .state) → ⊥)) (fold mixed mode0)
 
 -- 3: an Input with an unused word
+abbrev pub unreadRows : List Row
+unreadRows = row 21 2 7 0 0 1 ∷ []
+
 abbrev pub unread : Model
-unread = modelAt (row 21 2 7 0 0 1 ∷ []) [] []
+unread = modelAt unreadRows [] []
 
 unfoldable pub ThreeNeeded : Type 0
-ThreeNeeded = WellFormed unread × OfFold (λ f. AllPass 1 (unread .table) (f .state) → ⊥) (fold unread mode0)
+ThreeNeeded =
+    (check 1 unreadRows unread ≡ some (record { reason = 3; section = 1; position = 0 })) × WellFormed unread
+    × OfFold (λ f. AllPass 1 (unread .table) (f .state) → ⊥) (fold unread mode0)
 
 -- 6: 2, an And of 1 and 1, is listed as a Next; 1, an Ext of the byte 0, is taken for its state and replaced by that
 abbrev pub listedRows : List Row
@@ -102,4 +142,6 @@ abbrev pub listed : Model
 listed = modelAt listedRows (2 ∷ []) []
 
 unfoldable pub SixNeeded : Type 0
-SixNeeded = AllLegal (listed .table) × GivenPass 1 (listed .table) × OfFold (λ f. SortsKept (listed .table) (f .state) → ⊥) (fold listed mode0)
+SixNeeded =
+    (check 1 listedRows listed ≡ some (record { reason = 6; section = 2; position = 0 })) × AllLegal (listed .table) × GivenPass 1 (listed .table)
+    × OfFold (λ f. SortsKept (listed .table) (f .state) → ⊥) (fold listed mode0)
