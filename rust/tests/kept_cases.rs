@@ -2,6 +2,8 @@
 // The list is crates/replay/data/cases.list, or the file that GEMTWEED_CASES names. For each case it has a line with two lengths, then that
 // many bytes of input text and of output text, and a line end. The first ones have a wrong output, which the library must not print.
 
+#[path = "../../tests/rows.rs"]
+mod rows;
 mod support;
 
 use gemtweed::{Node, NodeId, Reply, Table};
@@ -76,6 +78,32 @@ fn every_kept_case() {
     println!("{folded} cases agree, {accepted} of them accepted");
     println!("skipped: {texts} refused as text, {no_bytes} with a number among the names that is no byte");
     assert!(folded >= 1000, "too few cases: {folded}");
+}
+
+// The sections of an accepted output, each without its count.
+fn sections(output: &str) -> Option<Vec<Vec<u64>>> {
+    let numbers = |line: &str| line.split(' ').skip(1).map(|word| word.parse().unwrap()).collect();
+    Some(output.strip_prefix("accepted\n")?.lines().map(numbers).collect())
+}
+
+// Rows, replacements and constants have the sorts that they should, and a made constant of another sort is noticed.
+#[test]
+fn every_sort_of_every_kept_case() {
+    let (mut accepted, mut made) = (0, 0);
+    for (input, output) in cases(&list()).split_off(WRONG) {
+        let Some(mut sections) = sections(output) else { continue };
+        rows::judge(input, &sections).unwrap_or_else(|why| panic!("{why}: {output}"));
+        accepted += 1;
+        for place in (4..sections[1].len()).step_by(2) {
+            let sort = sections[1][place];
+            sections[1][place] = if sort == 2 { 17 } else { 2 };
+            assert!(rows::judge(input, &sections).is_err(), "overlooked at {place}: {output}");
+            sections[1][place] = sort;
+            made += 1;
+        }
+    }
+    println!("{accepted} accepted cases, {made} made constants");
+    assert!(made >= 1000, "too few made constants: {made}");
 }
 
 // The table of a call that is accepted; nothing if it has a reply that is none, which no question took.
