@@ -30,7 +30,7 @@ pub struct Question {
     pub reply: Reply,
 }
 
-/// A constant of the result.
+/// A constant of the result. One that was made for a node has that node's own sort.
 #[derive(Clone, Copy, Debug, PartialEq, Eq, Hash)]
 pub struct Constant {
     pub sort: Sort,
