@@ -9,7 +9,7 @@ use lib.Dec.{lit<}
 use Rattle.btor.specs.Operators.{compute}
 use Rattle.btor.specs.Sorts.{width, ones}
 use Rattle.rules.specs.Lists.{All}
-use Rattle.rules.specs.Refusal.{Out, refused, done, refuse}
+use Rattle.rules.specs.Refusal.{Out, refused, done, refuse, OfDone}
 use Rattle.rules.specs.Table.{Next, Node, nodeAt}
 use Rattle.rules.specs.Model.{Model}
 use Rattle.rules.specs.Check.{checkNodes, checkSequentials, checkBads, check}
@@ -23,8 +23,7 @@ use Rattle.rules.specs.Sections.{rowsWords, encode, cutSection, rowsOf, 
 use Rattle.rules.specs.Names.{cutNames, countedNames, namesOf, startsWith}
 use Rattle.rules.specs.Call.{impl, judgeMode, judgeRoom, modelFrom, brought, judgeAndFold, judgeCut, outcome, Judged, judged}
 use Rattle.rules.specs.Cases.{mode0}
-use Rattle.rules.specs.Worked.{OfAccepted}
-use Rattle.rules.specs.KeptState.{begun, testedVisit, testedAll, StatesStay, KeptStateOfCall, Fails, summed, TableNeeded, takingRows, taking, SixNeeded, twiceRows, twice, SevenNeeded, keptCall, KeptNext, OfJudged, KeptWorked}
+use Rattle.rules.specs.KeptState.{begun, testedVisit, testedAll, StatesStay, KeptStateOfCall, Fails, summed, TableNeeded, takingRows, taking, SixNeeded, twiceRows, twice, SevenNeeded, keptCall, KeptNext, KeptWorked}
 use Rattle.rules.proofs.Base.{kept≢replaced}
 use Rattle.rules.proofs.Check.{all-legal}
 use Rattle.rules.proofs.Sections.{never}
@@ -97,7 +96,7 @@ seven-needed = (
 )
 
 -- ---- the call at work
-worked : OfAccepted KeptNext (outcome house impl keptCall)
+worked : OfDone KeptNext (outcome house impl keptCall)
 unfolding outcome judgeMode encode rowsWords cut cutSix cutSection rowsOf namesOf countedNames cutNames judgeCut judgeRoom startsWith judgeAndFold run check checkNodes checkSequentials checkBads width ones fold foldBads judgeBads judgeSequentials visitAll ask askOr visit process iteOn settle finish finishStay unary binary visit1 visit2 takeInput
 worked =
     record {
@@ -111,7 +110,7 @@ worked =
       mark = refl;
     }
 
-came : OfJudged (λ j. Unit) (judged house keptCall)
+came : OfDone (λ j. Unit) (judged house keptCall)
 unfolding judged judgeMode encode rowsWords cut cutSix cutSection rowsOf namesOf countedNames cutNames judgeRoom startsWith check checkNodes checkSequentials checkBads width
 came = tt
 
@@ -119,6 +118,6 @@ pub kept-worked : KeptWorked
 unfolding KeptWorked KeptStateOfCall
 kept-worked = (worked, go (judged house keptCall) refl came)
   where
-    go : (o : Out Judged) → judged house keptCall ≡ o → OfJudged (λ j. Unit) o → OfJudged (λ j. StatesStay (modelFrom (j .names) (brought impl (j .sections))) (j .how)) o
+    go : (o : Out Judged) → judged house keptCall ≡ o → OfDone (λ j. Unit) o → OfDone (λ j. StatesStay (modelFrom (j .names) (brought impl (j .sections))) (j .how)) o
     go (refused r) e h = h
     go (done j) e h = kept-state-of-call house impl keptCall j e

@@ -12,7 +12,7 @@ use borrow.Author.Tests.{eqb-false}
 use Rattle.btor.specs.Operators.{compute}
 use Rattle.btor.specs.Sorts.{width, ones}
 use Rattle.rules.specs.Lists.{sum, All}
-use Rattle.rules.specs.Refusal.{Out, refused, done}
+use Rattle.rules.specs.Refusal.{Out, refused, done, OfDone}
 use Rattle.rules.specs.Table.{Row, Node, kindCode}
 use Rattle.rules.specs.Check.{rule3, checkNodes, checkSequentials, checkBads, check}
 use Rattle.rules.specs.Legal.{AllLegal, Once, rowAt}
@@ -26,7 +26,6 @@ use Rattle.rules.specs.Sections.{rowsWords, encode, cutSection, rowsOf, 
 use Rattle.rules.specs.Names.{cutNames, countedNames, namesOf, startsWith}
 use Rattle.rules.specs.Call.{Entry, impl, withSolver, withInput, Accepted, judgeMode, judgeRoom, judgeAndFold, judgeCut, outcome}
 use Rattle.rules.specs.Laws.{MadeFor}
-use Rattle.rules.specs.Worked.{OfAccepted}
 use Rattle.rules.specs.OwnSort.{OwnSortsOfCall, EachSort, byteCall, ByteStays, Said, tight, ByteWorked, ByteCanFail, mixedRows, FiveNeeded, unread, ThreeNeeded, listedRows, SixNeeded}
 use Rattle.rules.proofs.Base.{kept≢replaced}
 use Rattle.rules.proofs.Check.{all-legal}
@@ -37,7 +36,7 @@ unfolding EachSort outcome judgeMode encode rowsWords cut cutSix cutSection rows
 each-sort = ((refl, refl), ((refl, refl), ((refl, refl), ((refl, refl), ((refl, refl), ((refl, refl), ((refl, refl), ((refl, refl), tt))))))))
 
 -- ---- a byte that stays a byte
-worked : OfAccepted ByteStays (outcome house impl (byteCall 0)) × OfAccepted ByteStays (outcome house withSolver (byteCall 7)) × OfAccepted ByteStays (outcome tight withInput (byteCall 5))
+worked : OfDone ByteStays (outcome house impl (byteCall 0)) × OfDone ByteStays (outcome house withSolver (byteCall 7)) × OfDone ByteStays (outcome tight withInput (byteCall 5))
 unfolding outcome judgeMode encode rowsWords cut cutSix cutSection rowsOf namesOf countedNames cutNames judgeCut judgeRoom startsWith judgeAndFold run check checkNodes checkSequentials checkBads width ones fold foldBads judgeBads judgeSequentials lastQuestion visitAll ask askOr visit process settle finish finishStay unary binary visit1 visit2 iteOn takeInput
 worked = (
   record { count = refl; byte = refl; mark = refl; row = refl },
@@ -45,12 +44,12 @@ worked = (
   record { count = refl; byte = refl; mark = refl; row = refl },
 )
 
-said : (limits : Limits) (entry : Entry) (mode : ℕ) → namesOf limits (byteCall mode .names) ≡ done ([] ∷ []) → OfAccepted ByteStays (outcome limits entry (byteCall mode))
-    → OfAccepted Said (outcome limits entry (byteCall mode))
+said : (limits : Limits) (entry : Entry) (mode : ℕ) → namesOf limits (byteCall mode .names) ≡ done ([] ∷ []) → OfDone ByteStays (outcome limits entry (byteCall mode))
+    → OfDone Said (outcome limits entry (byteCall mode))
 unfolding OwnSortsOfCall
 said limits entry mode n = go (outcome limits entry (byteCall mode)) refl
   where
-    go : (o : Out Accepted) → outcome limits entry (byteCall mode) ≡ o → OfAccepted ByteStays o → OfAccepted Said o
+    go : (o : Out Accepted) → outcome limits entry (byteCall mode) ≡ o → OfDone ByteStays o → OfDone Said o
     go (refused r) e h = h
     go (done a) e h =
         let s = own-sorts-of-call limits entry (byteCall mode) a ([] ∷ []) e n in
@@ -74,11 +73,11 @@ record Marks (a : Accepted) : Type 0 where
   by-and : a .folded .state .mark 2 ≡ replaced 8
   others : All (λ k. a .folded .state .mark k ≡ kept) (0 ∷ 1 ∷ 3 ∷ 4 ∷ 5 ∷ [])
 
-marked : OfAccepted Marks (outcome house impl (byteCall 0))
+marked : OfDone Marks (outcome house impl (byteCall 0))
 unfolding outcome judgeMode encode rowsWords cut cutSix cutSection rowsOf namesOf countedNames cutNames judgeCut judgeRoom startsWith judgeAndFold run check checkNodes checkSequentials checkBads width ones fold foldBads judgeBads judgeSequentials visitAll ask askOr visit process settle finish finishStay unary binary visit1 visit2 iteOn takeInput
 marked = record { nodes = refl; made = refl; by-and = refl; others = (refl, (refl, (refl, (refl, (refl, tt))))) }
 
-made-fails : (o : Out Accepted) → OfAccepted Marks o → OfAccepted (λ a. MadeFor (a .model .table) (addConst (a .folded .state) 9 11 1) → ⊥) o
+made-fails : (o : Out Accepted) → OfDone Marks o → OfDone (λ a. MadeFor (a .model .table) (addConst (a .folded .state) 9 11 1) → ⊥) o
 made-fails (refused r) m = m
 made-fails (done a) m = λ h. let w = h 9 (omega (arith, m .nodes)) (omega (arith, m .nodes, m .made)) in go (w .0) (omega (arith, w .1, m .nodes)) (w .2)
   where

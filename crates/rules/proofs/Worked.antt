@@ -12,7 +12,7 @@ use borrow.Author.Tests.{eqb-true, le-ltb}
 use Rattle.btor.specs.Operators.{Reading, rust, compute, both, complement, choose, less, bit}
 use Rattle.btor.specs.Sorts.{width, ones}
 use Rattle.rules.specs.Lists.{All}
-use Rattle.rules.specs.Refusal.{Out, refused, done}
+use Rattle.rules.specs.Refusal.{Out, refused, done, OfDone}
 use Rattle.rules.specs.Table.{Node, nodeAt, decode, constant}
 use Rattle.rules.specs.Check.{check, checkNodes, checkSequentials, checkBads}
 use Rattle.rules.specs.Value.{Value, number, num, worth, value, over, overIn, Fits}
@@ -27,7 +27,7 @@ use Rattle.rules.specs.Sections.{rowsWords, encode, cutSection, rowsOf, 
 use Rattle.rules.specs.Names.{cutNames, countedNames, namesOf, startsWith}
 use Rattle.rules.specs.Call.{Call, Entry, impl, Accepted, judgeMode, judgeRoom, judgeAndFold, judgeCut, outcome, FaithfulTo, HoldIn, valueIn, Premises, Demand3OfCall, FaithfulOfCall}
 use Rattle.rules.specs.Cases.{row}
-use Rattle.rules.specs.Worked.{OfAccepted, Follows, Replaced, replacedRows, replacedHeld, replacedAsked, replacedCall, ReplacedWorked, severalRows, severalAsked, severalCall, Several, SeveralWorked, Stepped, steppedRows, steppedCall, SteppedWorked}
+use Rattle.rules.specs.Worked.{Follows, Replaced, replacedRows, replacedHeld, replacedAsked, replacedCall, ReplacedWorked, severalRows, severalAsked, severalCall, Several, SeveralWorked, Stepped, steppedRows, steppedCall, SteppedWorked}
 use Rattle.btor.proofs.Agreement.{cases}
 use Rattle.rules.proofs.Words.{width-word}
 use Rattle.rules.proofs.Call.{demand3-of-call}
@@ -48,7 +48,7 @@ module _ (t : List Node) (x : ℕ) (l : x < 2 ^ 64) (s : nodeAt t 0 .sort ≡ 2)
       (λ e. subst (λ s. Fits s (number x)) (sym s ∙ ap (λ j. nodeAt t j .sort) (sym (eqb-true k 0 e))) ((λ z. omega arith), subst (λ w. x < 2 ^ w) (sym width-word) l))
       (λ _. some-assigns t .1 k h i)
 
-follows : (limits : Limits) (entry : Entry) (call : Call) (o : Out Accepted) → outcome limits entry call ≡ o → OfAccepted Premises o → OfAccepted Free o → OfAccepted Follows o
+follows : (limits : Limits) (entry : Entry) (call : Call) (o : Out Accepted) → outcome limits entry call ≡ o → OfDone Premises o → OfDone Free o → OfDone Follows o
 unfolding Demand3OfCall FaithfulOfCall
 follows limits entry call (refused r) e p q = p
 follows limits entry call (done a) e p q =
@@ -124,8 +124,8 @@ module _ (ks : List ℕ) (r : ℕ) (f : Facts) (a : Accepted) (e : factsOf ks r 
   mark-is i = ap (λ x. getD (x .marks) i fresh) e
 
 -- what holds of every call with these facts holds of the call that has them
-of-facts : (ks : List ℕ) (r : ℕ) (f : Facts) (P : Accepted → Type 0) (call : Call) (o : Out Accepted) → outcome house impl call ≡ o → OfAccepted (λ a. factsOf ks r a ≡ f) o
-    → ((a : Accepted) → factsOf ks r a ≡ f → Premises a) → ((a : Accepted) → factsOf ks r a ≡ f → Free a) → ((a : Accepted) → factsOf ks r a ≡ f → Premises a → Follows a → P a) → OfAccepted P o
+of-facts : (ks : List ℕ) (r : ℕ) (f : Facts) (P : Accepted → Type 0) (call : Call) (o : Out Accepted) → outcome house impl call ≡ o → OfDone (λ a. factsOf ks r a ≡ f) o
+    → ((a : Accepted) → factsOf ks r a ≡ f → Premises a) → ((a : Accepted) → factsOf ks r a ≡ f → Free a) → ((a : Accepted) → factsOf ks r a ≡ f → Premises a → Follows a → P a) → OfDone P o
 of-facts ks r f P call (refused w) q e premises free then = e
 of-facts ks r f P call (done a) q e premises free then = then a e (premises a e) (follows house impl call (done a) q (premises a e) (free a e))
 
@@ -160,7 +160,7 @@ replacedFacts =
 abbrev replacedMarked : List ℕ
 replacedMarked = 1 ∷ 3 ∷ 6 ∷ 7 ∷ []
 
-replaced-computed : OfAccepted (λ a. factsOf replacedMarked 16 a ≡ replacedFacts) (outcome house impl replacedCall)
+replaced-computed : OfDone (λ a. factsOf replacedMarked 16 a ≡ replacedFacts) (outcome house impl replacedCall)
 unfolding outcome judgeMode encode rowsWords cut cutSix cutSection rowsOf namesOf countedNames cutNames judgeCut judgeRoom startsWith judgeAndFold run check checkNodes checkSequentials checkBads width ones fold foldBads judgeBads judgeSequentials visitAll ask askOr visit process iteOn settle finish finishStay unary binary visit1 visit2 takeInput
 replaced-computed = refl {a = replacedFacts}
 
@@ -267,7 +267,7 @@ severalFacts =
       row = constant 2 0;
     }
 
-several-computed : OfAccepted (λ a. factsOf (2 ∷ []) 9 a ≡ severalFacts) (outcome house impl severalCall)
+several-computed : OfDone (λ a. factsOf (2 ∷ []) 9 a ≡ severalFacts) (outcome house impl severalCall)
 unfolding compute outcome judgeMode encode rowsWords cut cutSix cutSection rowsOf namesOf countedNames cutNames judgeCut judgeRoom startsWith judgeAndFold run check checkNodes checkSequentials checkBads width ones fold foldBads judgeBads judgeSequentials visitAll lastQuestion ask askOr visit process settle finish finishStay unary binary visit1 visit2
 several-computed = refl {a = severalFacts}
 
@@ -331,7 +331,7 @@ steppedFacts =
       row = decode (row 20 2 7 0 0 0);
     }
 
-stepped-computed : OfAccepted (λ a. factsOf (6 ∷ []) 8 a ≡ steppedFacts) (outcome house impl steppedCall)
+stepped-computed : OfDone (λ a. factsOf (6 ∷ []) 8 a ≡ steppedFacts) (outcome house impl steppedCall)
 unfolding outcome judgeMode encode rowsWords cut cutSix cutSection rowsOf namesOf countedNames cutNames judgeCut judgeRoom startsWith judgeAndFold run check checkNodes checkSequentials checkBads width ones fold foldBads judgeBads judgeSequentials visitAll ask visit process forward find lookAt settle finish finishStay unary binary visit1 visit2 visit3 takeInput
 stepped-computed = refl {a = steppedFacts}
 

@@ -13,7 +13,7 @@ use mathlib.Core.Bool.{true, false}
 use mathlib.Core.List.{List, [], _∷_, _++_}
 use lib.ListN.{length}
 use Rattle.rules.specs.Lists.{All}
-use Rattle.rules.specs.Refusal.{Out, refused, done, refuse, _>>=_}
+use Rattle.rules.specs.Refusal.{Out, refused, done, refuse, _>>=_, OfDone}
 use Rattle.rules.specs.Table.{Next, Row, Node, nodeAt, is, with}
 use Rattle.rules.specs.Model.{Model, Mode, modelOf}
 use Rattle.rules.specs.Legal.{AllLegal, Sequential, Once}
@@ -25,7 +25,6 @@ use Rattle.rules.specs.Whole.{waysOf, judgeSequentials, visitAll, Folded
 use Rattle.rules.specs.Limits.{Limits, house}
 use Rattle.rules.specs.Call.{Entry, impl, Call, Accepted, modelFrom, brought, outcome, Judged, judged}
 use Rattle.rules.specs.Cases.{row, mode0, callOf}
-use Rattle.rules.specs.Worked.{OfAccepted}
 
 -- the walk's state once the sequentials are judged, and the kept ones
 abbrev pub begun : Model → St × List ℕ
@@ -160,12 +159,8 @@ pub record KeptNext (a : Accepted) : Type 0 where
   pub state : a .folded .state .rows 5 .a ≡ 3
   pub mark : a .folded .state .mark 3 ≡ kept
 
--- what the theorem says of it
-abbrev pub OfJudged : (Judged → Type 0) → Out Judged → Type 0
-OfJudged P (refused r) = ⊥
-OfJudged P (done j) = P j
-
+-- with what the theorem says of it
 unfoldable pub KeptWorked : Type 0
 KeptWorked =
-    OfAccepted KeptNext (outcome house impl keptCall)
-    × OfJudged (λ j. StatesStay (modelFrom (j .names) (brought impl (j .sections))) (j .how)) (judged house keptCall)
+    OfDone KeptNext (outcome house impl keptCall)
+    × OfDone (λ j. StatesStay (modelFrom (j .names) (brought impl (j .sections))) (j .how)) (judged house keptCall)

@@ -11,19 +11,18 @@ use mathlib.Core.Option.{some}
 use mathlib.Core.List.{List, [], _∷_}
 use lib.ListN.{length}
 use Rattle.rules.specs.Lists.{All}
-use Rattle.rules.specs.Refusal.{Out, refused, done}
+use Rattle.rules.specs.Refusal.{done, OfDone}
 use Rattle.rules.specs.Table.{Eq, And, Input, Bad, Row, Node, constant}
 use Rattle.rules.specs.Model.{Model, modelOf}
 use Rattle.rules.specs.Check.{check}
 use Rattle.rules.specs.Legal.{AllLegal, WellFormed}
 use Rattle.rules.specs.Walk.{St, fresh, replaced, setRow, setMark, addConst}
-use Rattle.rules.specs.Whole.{Folded, fold}
+use Rattle.rules.specs.Whole.{fold}
 use Rattle.rules.specs.Laws.{SortsKept, MadeFor, AllMade, AllKept, AllPass, GivenPass}
 use Rattle.rules.specs.Names.{namesOf}
 use Rattle.rules.specs.Limits.{Limits, house}
 use Rattle.rules.specs.Call.{Entry, impl, withSolver, withInput, Call, Accepted, outcome}
 use Rattle.rules.specs.Cases.{row, node, mode0, callOf, Tells, oneMade, only, onTwo}
-use Rattle.rules.specs.Worked.{OfAccepted}
 
 -- ---- the theorem
 pub record OwnSorts (names : ℕ) (t : List Node) (σ : St) : Type 0 where
@@ -68,45 +67,45 @@ abbrev pub tight : Limits
 tight = record { nodes = 6; entries = 1; inputs = 0; replies = 0; names = 1; nameLength = 0 }
 
 abbrev pub WorkedBy : Limits → Entry → ℕ → Type 0
-WorkedBy limits entry mode = OfAccepted ByteStays (outcome limits entry (byteCall mode)) × OfAccepted Said (outcome limits entry (byteCall mode))
+WorkedBy limits entry mode = OfDone ByteStays (outcome limits entry (byteCall mode)) × OfDone Said (outcome limits entry (byteCall mode))
 
 -- by each entry point, with the house's limits and others, in the first mode, the last and another
 unfoldable pub ByteWorked : Type 0
 ByteWorked = WorkedBy house impl 0 × WorkedBy house withSolver 7 × WorkedBy tight withInput 5
 
--- ---- each part can fail: the same with one word, row or constant more or otherwise
+-- ---- each part can fail: of what that call leaves with little changed
 abbrev pub input : ℕ → ℕ → ℕ → Node
 input s x nm = record { kind = Input; sort = s; a = x; b = 0; c = 0; name = nm }
 
 module _ (t : List Node) (σ : St) where
-  -- the Rust's word of 64 bits for the byte; a constant that stands for no node, is too wide, or is none; 4 with an unused word; 2 with itself for operand;
-  -- 4 with an operand that is not in use, or is a Bad; 4 unvisited, of a byte and a bit, or with itself for operand; 3 of no sort; no name lent;
-  -- 3 with an unused word, or without its name
   pub record CanFail : Type 0 where
+    -- 8 is the Rust's word of 64 bits
     pub replacements : SortsKept t (setRow σ 8 (constant 2 1)) → ⊥
-    pub made : MadeFor t (addConst σ 9 11 1) → ⊥
     pub five : AllPass 1 t (setRow σ 8 (constant 2 1)) → ⊥
+    -- 9 is made for no node
+    pub made : MadeFor t (addConst σ 9 11 1) → ⊥
+    -- 8 is too wide for a byte, or no Const
     pub wide : AllPass 1 t (setRow σ 8 (constant 11 256)) → ⊥
+    pub constants : AllMade t (setRow σ 8 (node Input 11 1 0 0)) → ⊥
+    -- 4 has an unused word, 3 an unknown sort; the name of 3 is past the last
     pub three : AllPass 1 t (setRow σ 4 (node Eq 1 8 3 1)) → ⊥
+    pub known : AllPass 1 t (setRow (setRow σ 3 (input 9 0 1)) 4 (node Eq 1 3 3 0)) → ⊥
+    pub named : AllPass 0 t σ → ⊥
+    -- 2 names itself, 4 a constant that is not in use, and a Bad
     pub before : AllPass 1 t (setRow σ 2 (node And 11 0 2 0)) → ⊥
     pub used : AllPass 1 t (setRow (setRow σ 9 (constant 11 1)) 4 (node Eq 1 9 3 0)) → ⊥
     pub serves : AllPass 1 t (setRow (setRow σ 3 (node Bad 1 6 0 0)) 4 (node Eq 1 6 3 0)) → ⊥
+    -- 4, not visited, compares a byte with a bit, or names itself
     pub unvisitedFive : AllPass 1 t (setRow (setMark σ 4 fresh) 4 (node Eq 1 8 6 0)) → ⊥
     pub unvisitedBefore : AllPass 1 t (setRow (setMark σ 4 fresh) 4 (node Eq 1 4 4 0)) → ⊥
-    pub known : AllPass 1 t (setRow (setRow σ 3 (input 9 0 1)) 4 (node Eq 1 3 3 0)) → ⊥
-    pub named : AllPass 0 t σ → ⊥
-    pub constants : AllMade t (setRow σ 8 (node Input 11 1 0 0)) → ⊥
+    -- 3 has another unused word or name than was given
     pub words : AllKept t (setRow σ 3 (input 11 7 1)) → ⊥
     pub names : AllKept t (setRow σ 3 (input 11 0 0)) → ⊥
 
 unfoldable pub ByteCanFail : Type 0
-ByteCanFail = OfAccepted (λ a. CanFail (a .model .table) (a .folded .state)) (outcome house impl (byteCall 0))
+ByteCanFail = OfDone (λ a. CanFail (a .model .table) (a .folded .state)) (outcome house impl (byteCall 0))
 
 -- ---- rules 5, 3 and 6 are needed
-abbrev pub OfFold : (Folded → Type 0) → Out Folded → Type 0
-OfFold P (refused r) = ⊥
-OfFold P (done f) = P f
-
 abbrev pub modelAt : List Row → List ℕ → List ℕ → Model
 modelAt rs ss initial = modelOf rs (λ k. false) ss initial [] [] []
 
@@ -120,7 +119,7 @@ mixed = modelAt mixedRows [] (5 ∷ [])
 unfoldable pub FiveNeeded : Type 0
 FiveNeeded =
     (check 1 mixedRows mixed ≡ some (record { reason = 5; section = 1; position = 2 })) × GivenPass 1 (mixed .table)
-    × OfFold (λ f. (SortsKept (mixed .table) (f .state) → ⊥) × (AllPass 1 (mixed .table) (f .state) → ⊥)) (fold mixed mode0)
+    × OfDone (λ f. (SortsKept (mixed .table) (f .state) → ⊥) × (AllPass 1 (mixed .table) (f .state) → ⊥)) (fold mixed mode0)
 
 -- 3: an Input with an unused word
 abbrev pub unreadRows : List Row
@@ -132,7 +131,7 @@ unread = modelAt unreadRows [] []
 unfoldable pub ThreeNeeded : Type 0
 ThreeNeeded =
     (check 1 unreadRows unread ≡ some (record { reason = 3; section = 1; position = 0 })) × WellFormed unread
-    × OfFold (λ f. AllPass 1 (unread .table) (f .state) → ⊥) (fold unread mode0)
+    × OfDone (λ f. AllPass 1 (unread .table) (f .state) → ⊥) (fold unread mode0)
 
 -- 6: 2, an And of 1 and 1, is listed as a Next; 1, an Ext of the byte 0, is taken for its state and replaced by that
 abbrev pub listedRows : List Row
@@ -144,4 +143,4 @@ listed = modelAt listedRows (2 ∷ []) []
 unfoldable pub SixNeeded : Type 0
 SixNeeded =
     (check 1 listedRows listed ≡ some (record { reason = 6; section = 2; position = 0 })) × AllLegal (listed .table) × GivenPass 1 (listed .table)
-    × OfFold (λ f. SortsKept (listed .table) (f .state) → ⊥) (fold listed mode0)
+    × OfDone (λ f. SortsKept (listed .table) (f .state) → ⊥) (fold listed mode0)

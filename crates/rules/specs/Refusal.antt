@@ -1,6 +1,7 @@
 -- Refusals and outcomes (docs/FORMAT.md, "Refusals").
 --     Refusal   its number, section and position       Out       refused, or done with something
 --     _>>=_     what comes next, unless refused        firstOf   the first of several refusals, in order
+--     OfDone    what holds of an outcome that is not refused
 -- Assumes nothing.
 use Prim.Native.Nat.{ℕ}
 use mathlib.Core.Bool.{Bool, true, false}
@@ -24,6 +25,11 @@ refuse r s p = refused (record { reason = r; section = s; position = p })
 abbrev pub _>>=_ : {A B : Type 0} → Out A → (A → Out B) → Out B
 _>>=_ (refused r) f = refused r
 _>>=_ (done x) f = f x
+
+-- it is done, and P holds of what it comes to
+abbrev pub OfDone : {A : Type 0} → (A → Type 0) → Out A → Type 0
+OfDone P (refused r) = ⊥
+OfDone P (done x) = P x
 
 -- a test that must hold, and the refusal where it does not
 abbrev pub unless : Bool → ℕ → ℕ → ℕ → Option Refusal

@@ -7,7 +7,7 @@
 use Prim.Native.Nat.{ℕ, _<_, _^_}
 use mathlib.Core.Path.{_≡_}
 use mathlib.Core.List.{List, [], _∷_}
-use Rattle.rules.specs.Refusal.{Out, refused, done}
+use Rattle.rules.specs.Refusal.{OfDone}
 use Rattle.rules.specs.Table.{Row}
 use Rattle.rules.specs.Value.{Value, number}
 use Rattle.rules.specs.Walk.{Question, Held}
@@ -16,11 +16,6 @@ use Rattle.rules.specs.Demand.{Keeps}
 use Rattle.rules.specs.Limits.{house}
 use Rattle.rules.specs.Call.{Call, impl, Accepted, outcome, FaithfulTo, HoldIn, valueIn, Premises}
 use Rattle.rules.specs.Cases.{row, callOf}
-
--- the call is accepted, and P holds of what it comes to
-abbrev pub OfAccepted : (Accepted → Type 0) → Out Accepted → Type 0
-OfAccepted P (refused r) = ⊥
-OfAccepted P (done a) = P a
 
 -- some assignment is faithful, with any value that fits for the Input 0
 pub record Follows (a : Accepted) : Type 0 where
@@ -68,7 +63,7 @@ pub record Replaced (a : Accepted) : Type 0 where
   pub conditions : (α : ℕ → Value) → FaithfulTo a α → (valueIn a α 4 ≡ number 0) × (valueIn a α 10 ≡ number 0)
 
 unfoldable pub ReplacedWorked : Type 0
-ReplacedWorked = OfAccepted Replaced (outcome house impl replacedCall)
+ReplacedWorked = OfDone Replaced (outcome house impl replacedCall)
 
 -- ---- 0 an Input, 1 a zero, 2 its sum with itself, 3 whether 0 is below 2, 4 whether 0 is below itself, 5 and 6 Bads: neither can be 1
 abbrev pub severalRows : List Row
@@ -91,7 +86,7 @@ pub record Several (a : Accepted) : Type 0 where
   pub values : (α : ℕ → Value) → FaithfulTo a α → valueIn a α 2 ≡ number 0
 
 unfoldable pub SeveralWorked : Type 0
-SeveralWorked = OfAccepted Several (outcome house impl severalCall)
+SeveralWorked = OfDone Several (outcome house impl severalCall)
 
 -- ---- 0 an Input, 1 a memory State, 2 and 3 the numbers 5 and 7, 4 the memory with 0 written at 5, 5 that with 7 written at 7, 6 what is read at 5,
 -- 7 a State with init 5, 8 its Next, which is 6, 9 whether 7 is 0, 10 a Bad: the Read is the Input, so the State's next value is
@@ -113,4 +108,4 @@ pub record Stepped (a : Accepted) : Type 0 where
   pub values : (α : ℕ → Value) → FaithfulTo a α → (valueIn a α 6 ≡ valueIn a α 0) × (valueIn a α 8 ≡ valueIn a α 0)
 
 unfoldable pub SteppedWorked : Type 0
-SteppedWorked = OfAccepted Stepped (outcome house impl steppedCall)
+SteppedWorked = OfDone Stepped (outcome house impl steppedCall)
