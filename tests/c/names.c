@@ -70,6 +70,16 @@ static void entries(uint64_t count, uint64_t first, uint64_t step)
         words[words_len++] = first + step * at;
 }
 
+/* The rows with one initial bad state, and nothing else. */
+static gemtweed_answer fold_bad(uint64_t bad)
+{
+    entries(0, 0, 0);
+    entries(1, bad, 0);
+    for (int section = 4; section <= 6; section++)
+        entries(0, 0, 0);
+    return fold(0);
+}
+
 /* Whether a node of two constants, of a bit and of a memory with one write has this value: a bad state that it has stays, and is true. */
 static void computes(uint64_t kind, uint64_t sort, uint64_t a, uint64_t b, uint64_t c, uint64_t value)
 {
@@ -85,11 +95,7 @@ static void computes(uint64_t kind, uint64_t sort, uint64_t a, uint64_t b, uint6
     row(GEMTWEED_CONST, sort, value, 0, 0, 0);
     row(GEMTWEED_EQ, GEMTWEED_BIT, 5, 6, 0, 0);
     row(GEMTWEED_BAD, GEMTWEED_BIT, 7, 0, 0, 0);
-    entries(0, 0, 0);
-    entries(1, NODES - 1, 0);
-    for (int section = 4; section <= 6; section++)
-        entries(0, 0, 0);
-    gemtweed_answer answer = fold(0);
+    gemtweed_answer answer = fold_bad(NODES - 1);
     check(answer.number == GEMTWEED_ACCEPTED && result[1 + 6 * (NODES - 1) + 2] == NODES + 1, "kind", kind);
 }
 
@@ -156,11 +162,7 @@ static void makes(uint64_t kind, uint64_t sort, uint64_t left, uint64_t right, u
     row(kind, sort, 0, 1, 0, 0);
     row(GEMTWEED_EQ, GEMTWEED_BIT, 2, 0, 0, 0);
     row(GEMTWEED_BAD, GEMTWEED_BIT, 3, 0, 0, 0);
-    entries(0, 0, 0);
-    entries(1, NODES - 1, 0);
-    for (int section = 4; section <= 6; section++)
-        entries(0, 0, 0);
-    gemtweed_answer answer = fold(0);
+    gemtweed_answer answer = fold_bad(NODES - 1);
     check(answer.number == GEMTWEED_ACCEPTED && constants[0] == 3, "made for kind", kind);
     check(constants[5] == sort && constants[6] == number, "made of sort", sort);
 }

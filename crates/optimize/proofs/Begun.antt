@@ -6,10 +6,10 @@ use mathlib.Core.Path.{_≡_, refl, sym, ap, _∙_, subst}
 use mathlib.Core.Bool.{Bool}
 use mathlib.Core.List.{List, []}
 use native.Mathlib.Omega.{arith}
-use lib.ListN.{length, getD, take, drop, length-take}
+use lib.ListN.{length, take, length-take}
 use lib.Seq.{getD-take}
 use Rattle.rules.specs.Lists.{All}
-use Rattle.rules.specs.Refusal.{Out, done}
+use Rattle.rules.specs.Refusal.{done}
 use Rattle.rules.specs.Legal.{AllLegal, Sequential}
 use Rattle.rules.specs.Walk.{St, Mark, fresh, kept, replaced, Held, start}
 use Rattle.rules.specs.Whole.{judgeSequentials, visitAll}

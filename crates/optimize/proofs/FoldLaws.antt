@@ -4,10 +4,9 @@
 -- Assumes nothing.
 use Prim.Native.Nat.{ℕ, _-_, _^_}
 use mathlib.Core.Path.{_≡_, refl, sym, ap, _∙_}
-use mathlib.Core.Bool.{Bool, true, false, cond}
+use mathlib.Core.Bool.{Bool, true, false}
 use mathlib.Core.List.{List}
 use lib.ListN.{length}
-use lib.Dec.{eqb}
 use Rattle.btor.specs.Operators.{rust, compute, complement}
 use Rattle.btor.specs.Sorts.{sortOf, bitsOf, widthOf, onesOf, width, ones}
 use Rattle.btor.specs.declared.node_type.NodeType.{NodeType}

@@ -1,7 +1,7 @@
 -- Every accepted call has a faithful assignment for whatever its Inputs and unreplaced states are given: a state whose Next was dropped has its
 -- init's value, and one that took an input the constant that stands for it. Values of rows solve themselves from below (Values), so that is one.
 -- Assumes nothing.
-use Prim.Native.Nat.{ℕ, zero, suc, _<_}
+use Prim.Native.Nat.{ℕ, zero, suc, _<_, _^_}
 use mathlib.Core.Path.{_≡_, refl, sym, ap, ap₂, _∙_, subst}
 use mathlib.Core.Logic.{_≢_}
 use mathlib.Core.Bool.{Bool, true, false, cond, _&&_, _||_}
@@ -132,7 +132,8 @@ module _ (how : Reading) (t : List Node) (legal : AllLegal t) (σ : St) (shape :
       (λ q.
       let past = ltb-false r (length t) q in
       let new = subst (MarkStands t (σ .rows) (σ .made) k) e (shape .marks k l) .1 .new past in
-      ((λ z. shape .news r past (new .inside) .sort (new .sort ∙ z)), new .fits))
+      let row = shape .news r past (new .inside) in
+      ((λ z. row .sort (new .sort ∙ z)), subst (λ i. σ .rows r .a < 2 ^ width i) (new .sort) (row .fits)))
 
   given-fits : (k : ℕ) → k < length t → Fits (nodeAt t k .sort) (β k) → (b : Bool) → Fits (nodeAt t k .sort) (given b k)
   given-fits k l b true = standing-fits k l b (σ .mark k) refl

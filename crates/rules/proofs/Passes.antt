@@ -45,10 +45,13 @@ same-from false x y h = refl
 same-three : (names : ℕ) (nd g : Node) → SameNode nd g → three names (kindCode (nd .kind)) nd ≡ three names (kindCode (g .kind)) g
 same-three names nd g s = λ i.
     allTrue (knownKind (kindCode (s .kind i)) ∷ knownSort (s .sort i) ∷ from i ∷ every (λ x. eqb x 0) (unused i) ∷ leb (s .name i) names
-    ∷ (eqb (s .name i) 0 || eqb (kindCode (s .kind i)) 19 || eqb (kindCode (s .kind i)) 22 || eqb (kindCode (s .kind i)) 21) ∷ (not (eqb (s .name i) 0) || not (eqb (kindCode (s .kind i)) 21)) ∷ [])
+    ∷ (eqb (s .name i) 0 || of State i || of Bad i || of Input i) ∷ (not (eqb (s .name i) 0) || not (of Input i)) ∷ [])
   where
+    of : (K : Kind) → is K nd ≡ is K g
+    of K = ap (λ J. eqb (kindCode J) (kindCode K)) (s .kind)
+
     from : (not (is Ext nd) || knownSort (nd .b)) ≡ (not (is Ext g) || knownSort (g .b))
-    from = ap (λ K. not (eqb (kindCode K) 13) || knownSort (nd .b)) (s .kind) ∙ same-from (is Ext g) _ _ (λ q. ap knownSort (s .from q))
+    from = ap (λ b. not b || knownSort (nd .b)) (of Ext) ∙ same-from (is Ext g) _ _ (λ q. ap knownSort (s .from q))
 
     unused : unusedAs (nd .kind) nd ≡ unusedAs (g .kind) g
     unused = ap (λ K. unusedAs K nd) (s .kind) ∙ s .unused
@@ -86,20 +89,18 @@ module _ (at given : ℕ → Node) where
   same-sorts Input nd g s e n h = refl
   same-sorts Bad nd g s e n h = λ i. eqb (s .sort i) 1 ∷ eqb (h .0 i) 1 ∷ []
 
+-- serving operands and sorts are all of it
 five-holds : (at : ℕ → Node) (nd : Node) → All (λ x. mayServe (at x) ≡ true) (operands nd) → All (λ b. b ≡ true) (sortedAs at (nd .kind) nd) → rule5At at nd ≡ true
 five-holds at nd h g = ap (λ b. b && allTrue (sortedAs at (nd .kind) nd)) (every-holds (λ x. mayServe (at x)) (operands nd) h) ∙ all-hold (sortedAs at (nd .kind) nd) g
 
 -- ---- the rows that a fold left
 module _ (t : List Node) (legal : AllLegal t) (σ : St) (shape : Shape t (σ .rows) (σ .made) (σ .mark)) where
-  abbrev References : ℕ → List ℕ → List ℕ → Type 0
-  References = Refs t (σ .rows) (σ .made)
-
-  serves : (k : ℕ) (xs os : List ℕ) → References k xs os → All (λ x. mayServe (σ .rows x) ≡ true) xs
+  serves : (k : ℕ) (xs os : List ℕ) → Refs t (σ .rows) (σ .made) k xs os → All (λ x. mayServe (σ .rows x) ≡ true) xs
   serves k [] os h = tt
   serves k (x ∷ xs) [] h = absurd h
   serves k (x ∷ xs) (o ∷ os) h = (stands-serves t (σ .rows) (σ .made) (σ .mark) shape x (nodeAt t o .sort) (h .0 .1), serves k xs os (h .1))
 
-  sorts : (k : ℕ) (xs os : List ℕ) → References k xs os → SortsLike (σ .rows) (nodeAt t) xs os
+  sorts : (k : ℕ) (xs os : List ℕ) → Refs t (σ .rows) (σ .made) k xs os → SortsLike (σ .rows) (nodeAt t) xs os
   sorts k [] [] h = tt
   sorts k [] (o ∷ os) h = absurd h
   sorts k (x ∷ xs) [] h = absurd h
@@ -120,7 +121,7 @@ module _ (t : List Node) (legal : AllLegal t) (σ : St) (shape : Shape t (σ .ro
       state q =
           let g : Node = nodeAt t k in
           let b = subst (λ K. All (λ x. x < k) (operandsAs K g)) (is-kind Next g q) (legal k l .before) .0 in
-          ap (λ x. is State (σ .rows x)) (s .state q) ∙ ap (λ K. eqb (kindCode K) 19) (shape .alike (g .a) (omega (arith, b, l)) .kind)
+          ap (λ x. is State (σ .rows x)) (s .state q) ∙ ap (λ K. eqb (kindCode K) (kindCode State)) (shape .alike (g .a) (omega (arith, b, l)) .kind)
 
 -- a constant's row
 const-three : (names s x : ℕ) → knownSort s ≡ true → rule3 names (coded (constant s x)) ≡ true

@@ -210,7 +210,7 @@ module _ (t : List Node) where
       pub operand-fits : (x s : ℕ) → Stands t rows made x s → ConstFits t rows made (constOf rows x) s
       operand-fits x s q =
           const-fits t legal rows made x s (λ l. h .alike x l .kind)
-          (λ l e. first-word (rows x .a) (nodeAt t x .a) (subst (λ K. keptAs K (rows x) ≡ keptAs K (nodeAt t x)) (is-kind Const (nodeAt t x) e) (h .alike x l .kept))) q
+          (λ l e. first-word (rows x .a) (nodeAt t x .a) (subst (λ K. keptAs K (rows x) ≡ keptAs K (nodeAt t x)) (is-kind Const (nodeAt t x) e) (h .alike x l .kept))) (λ l. h .news x l (q .new l .inside)) q
 
   -- ---- the start
   -- operands that serve stand for themselves

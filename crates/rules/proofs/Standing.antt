@@ -1,4 +1,4 @@
--- What stands for a node: a node before it with its sort that may serve as an operand, or a constant whose number fits.
+-- What stands for a node: a node before it with its sort that may serve as an operand, or a constant of its sort.
 -- What each rule folds a node to stands for it.
 -- Assumes nothing.
 use Prim.Native.Nat.{ℕ, suc, _+_, _<_, _≤_, _^_}
@@ -23,7 +23,7 @@ use Rattle.rules.specs.Laws.{MadeRow}
 use Rattle.btor.proofs.Agreement.{cases}
 use Rattle.btor.proofs.Laws.{compute-fits}
 use Rattle.rules.proofs.Base.{cases-cond, and-both, inside-or-past, put-other, is-kind, kind-is}
-use Rattle.rules.proofs.Words.{complement-fits, fits-word, width-bit, width-word}
+use Rattle.rules.proofs.Words.{complement-fits, fits-word, width-word}
 use Rattle.rules.proofs.Legal.{legal-as}
 
 module _ (t : List Node) where
@@ -35,11 +35,9 @@ module _ (t : List Node) where
   UpTo k x = x < length t → x ≤ k
 
   module _ (rows : ℕ → Node) (made : ℕ) where
-    -- a constant in use that may stand for a node of sort s
+    -- a constant in use, of sort s
     pub record NewFor (x s : ℕ) : Type 0 where
       pub inside : x < length t + 2 + made
-      pub const : rows x .kind ≡ Const
-      pub fits : rows x .a < 2 ^ width s
       pub sort : rows x .sort ≡ s
 
     pub record Stands (x s : ℕ) : Type 0 where
@@ -85,12 +83,7 @@ module _ (t : List Node) where
         new = λ i.
             let q = h .new i in
             let e : put rows k nd x ≡ rows x = put-other rows k nd x (λ z. omega arith) in
-            record {
-              inside = q .inside;
-              const = ap (λ (w : Node). w .kind) e ∙ q .const;
-              fits = subst (λ (w : Node). w .a < 2 ^ width s) (sym e) (q .fits);
-              sort = ap (λ (w : Node). w .sort) e ∙ q .sort;
-            };
+            record { inside = q .inside; sort = ap (λ (w : Node). w .sort) e ∙ q .sort };
       }
 
   pub stands-const : (rows : ℕ → Node) (made : ℕ) (nd : Node) (x s : ℕ) → Stands rows made x s → Stands (put rows (length t + 2 + made) nd) (suc made) x s
@@ -101,12 +94,7 @@ module _ (t : List Node) where
         new = λ i.
             let q = h .new i in
             let e : put rows (length t + 2 + made) nd x ≡ rows x = put-other rows (length t + 2 + made) nd x (λ z. omega (arith, q .inside)) in
-            record {
-              inside = omega (arith, q .inside);
-              const = ap (λ (w : Node). w .kind) e ∙ q .const;
-              fits = subst (λ (w : Node). w .a < 2 ^ width s) (sym e) (q .fits);
-              sort = ap (λ (w : Node). w .sort) e ∙ q .sort;
-            };
+            record { inside = omega (arith, q .inside); sort = ap (λ (w : Node). w .sort) e ∙ q .sort };
       }
 
   pub refs-map : (rows rows′ : ℕ → Node) (made made′ k : ℕ) → ((x s : ℕ) → Stands rows made x s → Stands rows′ made′ x s)
@@ -118,8 +106,8 @@ module _ (t : List Node) where
 
   -- ---- the number of a constant that stands for a node fits
   pub const-fits : AllLegal t → (rows : ℕ → Node) (made x s : ℕ) → (x < length t → rows x .kind ≡ nodeAt t x .kind) → (x < length t → is Const (nodeAt t x) ≡ true → rows x .a ≡ nodeAt t x .a)
-      → Stands rows made x s → ConstFits rows made (constOf rows x) s
-  const-fits legal rows made x s kinds numbers h =
+      → (length t ≤ x → MadeRow (rows x)) → Stands rows made x s → ConstFits rows made (constOf rows x) s
+  const-fits legal rows made x s kinds numbers news h =
       cases (λ c. ConstFits rows made c s) (is Const (rows x))
       (λ e. inside-or-past (rows x .a < 2 ^ width s) x (length t)
       (λ l.
@@ -127,28 +115,22 @@ module _ (t : List Node) where
       let g = legal-as t x Const (nodeAt t x) q (legal x l) in
       let z : nodeAt t x .a < 2 ^ width (nodeAt t x .sort) = ltb-true _ _ (g .sorts .1 .0) in
       subst (λ i. i < 2 ^ width s) (sym (numbers l (kind-is Const (nodeAt t x) q))) (subst (λ i. nodeAt t x .a < 2 ^ width i) (h .sort l) z))
-      (λ l. h .new l .fits))
+      (λ l. subst (λ i. rows x .a < 2 ^ width i) (h .new l .sort) (news l .fits)))
       (λ _. tt)
 
   module _ (rows : ℕ → Node) (made : ℕ) (sh : Shares rows made) where
     -- the shared constants stand for nodes of sort 1
-    shared-stands : (s r x : ℕ) → length t ≤ r → r < length t + 2 → x < 2 → rows r ≡ constant 1 x → s ≡ 1 → Stands rows made r s
-    shared-stands s r x l u b e q =
+    shared-stands : (s r x : ℕ) → length t ≤ r → r < length t + 2 → rows r ≡ constant 1 x → s ≡ 1 → Stands rows made r s
+    shared-stands s r x l u e q =
         record {
           serve = λ i. let o : ⊥ = omega arith in absurd o;
           sort = λ i. let o : ⊥ = omega arith in absurd o;
-          new = λ _.
-              record {
-                inside = omega arith;
-                const = ap (λ (w : Node). w .kind) e;
-                fits = subst (λ (w : Node). w .a < 2 ^ width s) (sym e) (subst (λ i. x < 2 ^ width i) (sym q) (subst (λ w. x < 2 ^ w) (sym width-bit) b));
-                sort = ap (λ (w : Node). w .sort) e ∙ sym q;
-              };
+          new = λ _. record { inside = omega arith; sort = ap (λ (w : Node). w .sort) e ∙ sym q };
         }
 
     pub shared-fold : (k s : ℕ) (b : Bool) → s ≡ 1 → FoldStands rows made k s (shared (length t) b)
-    shared-fold k s true q = ((λ i. let o : ⊥ = omega arith in absurd o), shared-stands s (length t + 1) 1 (omega arith) (omega arith) (omega arith) (sh .true!) q)
-    shared-fold k s false q = ((λ i. let o : ⊥ = omega arith in absurd o), shared-stands s (length t) 0 (omega arith) (omega arith) (omega arith) (sh .false!) q)
+    shared-fold k s true q = ((λ i. let o : ⊥ = omega arith in absurd o), shared-stands s (length t + 1) 1 (omega arith) (omega arith) (sh .true!) q)
+    shared-fold k s false q = ((λ i. let o : ⊥ = omega arith in absurd o), shared-stands s (length t) 0 (omega arith) (omega arith) (sh .false!) q)
 
     -- a new constant of the node's own sort
     pub own-fold : (k s y : ℕ) → knownSort s ≡ true → s ≢ 3 → y < 2 ^ width s → FoldStands rows made k s (make s y)

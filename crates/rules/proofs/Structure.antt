@@ -102,12 +102,7 @@ module _ (t : List Node) (ways : Ways) (ins reps : List ℕ) where
               record {
                 serve = λ i. let o : ⊥ = omega arith in absurd o;
                 sort = λ i. let o : ⊥ = omega arith in absurd o;
-                new = λ _. record {
-                  inside = omega arith;
-                  const = ap (λ (w : Node). w .kind) at;
-                  fits = subst (λ (w : Node). w .a < 2 ^ width (g .sort)) (sym at) (subst (λ i. y < 2 ^ width i) (h .0) (h .1 .fits));
-                  sort = ap (λ (w : Node). w .sort) at ∙ h .0;
-                };
+                new = λ _. record { inside = omega arith; sort = ap (λ (w : Node). w .sort) at ∙ h .0 };
               } in
               let st′ : At t ways ins reps σ₂ r (nodeAt t k .sort) = subst (At t ways ins reps σ₂ r) same-sort st in
               let far : Below t k r = λ i. let o : ⊥ = omega arith in absurd o in
