@@ -1,5 +1,6 @@
 -- The sorts of nodes (docs/FORMAT.md, "Nodes"; NodeType, get_sort and bitsize of mod.rs, ones of optimize.rs).
 --     codeOf    the code of a sort       widthOf    its bits; a memory is no number and has none
+--     bitCode, wordCode, memoryCode      the three codes that rules name
 --     onesOf    all ones of a sort       sortOf     the sort that a code names, if it names one
 -- Assumes nothing.
 use Prim.Native.Nat.{ℕ, _-_, _^_}
@@ -27,6 +28,16 @@ codeOf Input4Byte = 14
 codeOf Input5Byte = 15
 codeOf Input6Byte = 16
 codeOf Input7Byte = 17
+
+-- the codes that rules on sorts name
+abbrev pub bitCode : ℕ
+bitCode = codeOf Bit
+
+abbrev pub wordCode : ℕ
+wordCode = codeOf Word
+
+abbrev pub memoryCode : ℕ
+memoryCode = codeOf Memory
 
 abbrev pub widthOf : NodeType → ℕ
 widthOf Bit = 1

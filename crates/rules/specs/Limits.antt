@@ -1,6 +1,6 @@
 -- The house's limits, the room that a call needs, and what a mode adds up (docs/FORMAT.md, "A call", "Limits and room", "Modes").
 --     Limits, house      the most of everything, and the house's own numbers
---     need               the words of room
+--     nodeRoom, badRoom, leastRoom, need   the words of room
 --     highestMode, modeOf
 -- Assumes nothing.
 use Prim.Native.Nat.{ℕ, _+_, _*_, _/_, _%_}
@@ -22,9 +22,19 @@ pub record Limits : Type 0 where
 abbrev pub house : Limits
 house = record { nodes = 4096; entries = 1024; inputs = 4096; replies = 16384; names = 4096; nameLength = 64 }
 
+-- the room of each node, of each bad entry, and of a table that has none
+abbrev pub nodeRoom : ℕ
+nodeRoom = 22
+
+abbrev pub badRoom : ℕ
+badRoom = 5
+
+abbrev pub leastRoom : ℕ
+leastRoom = 22
+
 -- "With n nodes, s sequentials, b bad entries in sections 3 and 4 together and i inputs, result and scratch each need 22n + 5b + s + i + 22 words."
 abbrev pub need : ℕ → ℕ → ℕ → ℕ → ℕ
-need n s b i = 22 * n + 5 * b + s + i + 22
+need n s b i = nodeRoom * n + badRoom * b + s + i + leastRoom
 
 -- refusal 1: "a mode above 7"
 abbrev pub highestMode : ℕ

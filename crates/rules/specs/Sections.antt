@@ -1,10 +1,11 @@
 -- Sections 1 to 6 of the words, each after its count, and the words of given sections (docs/FORMAT.md, "A call").
 --     Sections           what stands in the six sections
 --     cutSection         one section off the words: refusal 2, then refusal 1
+--     wordOf             a word of a row
 --     cutSix, cut        the six in order, with what follows them, and with nothing after them
 --     encode             the words of sections
 -- Assumes nothing.
-use Prim.Native.Nat.{ℕ, zero, suc, _*_, _≤_}
+use Prim.Native.Nat.{ℕ, zero, suc, _+_, _*_, _≤_}
 use mathlib.Core.Bool.{true, false}
 use mathlib.Core.List.{List, [], _∷_, _++_}
 use lib.ListN.{length, getD, take, drop}
@@ -44,6 +45,10 @@ cutSection section limit width (count ∷ ws) =
 -- "A node is six words: kind, sort, a, b, c, name."
 abbrev pub rowOf : List ℕ → Row
 rowOf ws = record { code = getD ws 0 0; sort = getD ws 1 0; a = getD ws 2 0; b = getD ws 3 0; c = getD ws 4 0; name = getD ws 5 0 }
+
+-- word w of row k, each from 0, in words that start with section 1
+abbrev pub wordOf : List ℕ → ℕ → ℕ → ℕ
+wordOf ws k w = getD ws (1 + rowWidth * k + w) 0
 
 -- so many rows, one after the other
 unfoldable pub rowsOf : ℕ → List ℕ → List Row
