@@ -32,7 +32,9 @@ use Rattle.optimize.specs.declared.smt_solver.Asked.{Asked}
 use Rattle.optimize.specs.declared.bads.Judging.{Judging}
 use Rattle.optimize.specs.declared.bads.Retained.{Retained}
 use Rattle.optimize.specs.declared.bads.Judged.{Judged}
-use Rattle.optimize.specs.View.{countOf, wordOf, tableOf, waysIn, rowsOf, markOf, questionOf, view, outcomeOf, Meets}
+use Rattle.optimize.specs.Bounds.{countOf}
+use Rattle.rules.specs.Sections.{wordOf}
+use Rattle.optimize.specs.View.{tableOf, waysIn, rowsOf, markOf, questionOf, view, outcomeOf, Meets}
 use Rattle.optimize.specs.Process.{askedOf, visitOf}
 use Rattle.optimize.specs.Laid.{Laid}
 use Rattle.optimize.specs.Lists.{entriesOf}

@@ -17,7 +17,8 @@ use Rattle.optimize.specs.declared.walk.Walk.{Walk}
 use Rattle.optimize.specs.declared.walk.Optimized.{Optimized}
 use Rattle.optimize.specs.declared.bads.Judged.{Judged}
 use Rattle.optimize.specs.declared.result.Kept.{Kept}
-use Rattle.optimize.specs.View.{countOf, view}
+use Rattle.optimize.specs.Bounds.{countOf}
+use Rattle.optimize.specs.View.{view}
 use Rattle.optimize.specs.ResultView.{foldedIn, Handed, ModelOf}
 use Rattle.optimize.specs.Lists.{entriesOf}
 use Rattle.optimize.specs.Laid.{Laid}

@@ -22,7 +22,8 @@ use Rattle.rules.proofs.Room.{sum-bound}
 use Rattle.rules.proofs.Shape.{start-shape, start-books}
 use Rattle.rules.proofs.Went.{fee, Fine}
 use Rattle.rules.proofs.Walked.{Walked, sequentials-walked}
-use Rattle.optimize.specs.View.{countOf, tableOf, firsts, waysIn, markOf, view}
+use Rattle.optimize.specs.Bounds.{countOf, mostLooked, mostNodes, roomOf, rowsEnd}
+use Rattle.optimize.specs.View.{tableOf, firsts, waysIn, markOf, view}
 use Rattle.optimize.specs.ResultView.{untouched}
 use Rattle.optimize.specs.Laid.{Laid}
 use Rattle.optimize.proofs.Steps.{table-length}
@@ -45,10 +46,10 @@ unfolding unpaid
 fees t zero = omega arith
 fees t (suc c) = omega (arith, fees t c, bit-most (is Read (nodeAt t c)) (writes t))
 
-all-fees : (t : List Node) → length t ≤ 4096 → unpaid (fee t) (length t) (λ k. fresh) ≤ 16777216
+all-fees : (t : List Node) → length t ≤ mostNodes → unpaid (fee t) (length t) (λ k. fresh) ≤ mostLooked
 all-fees t h =
-    let few : writes t ≤ 4096 = omega (arith, writes-few t) in
-    let w : length t * writes t ≤ 4096 * 4096 = mul-le-mul h few in
+    let few : writes t ≤ mostNodes = omega (arith, writes-few t) in
+    let w : length t * writes t ≤ mostNodes * mostNodes = mul-le-mul h few in
     omega (arith, fees t (length t), w)
 
 module _ (g dumps ins reps : List ℕ) (minimise : Bool) (legal : AllLegal (tableOf g)) where
@@ -64,7 +65,7 @@ module _ (g dumps ins reps : List ℕ) (minimise : Bool) (legal : AllLegal (tabl
   pub begins-fine : (ss R S : List ℕ) → All (Sequential (tableOf g)) ss → view [] g ins reps R S untouched ≡ judgeSequentials (tableOf g) begin ss .0 → Fine (tableOf g) ways ins reps (view [] g ins reps R S untouched)
   begins-fine ss R S h e = subst (λ (σ : St). Fine (tableOf g) ways ins reps σ) (sym e) (sequentials-walked (tableOf g) ways ins reps legal begin ss refl h .goes begin-fine .fine)
 
-  pub begins : (ss R S : List ℕ) → All (Sequential (tableOf g)) ss → countOf g ≤ 4096 → 1 + 6 * countOf g ≤ length g → 22 * countOf g + 22 ≤ length R → 2 * countOf g + 12 * countOf g ≤ length S
+  pub begins : (ss R S : List ℕ) → All (Sequential (tableOf g)) ss → countOf g ≤ mostNodes → rowsEnd (countOf g) ≤ length g → roomOf (countOf g) ≤ length R → 2 * countOf g + 12 * countOf g ≤ length S
       → view [] g ins reps R S untouched ≡ judgeSequentials (tableOf g) begin ss .0 → Laid g dumps ins reps minimise R S untouched
   unfolding view firsts
   begins ss R S h small whole room asks e =

@@ -18,7 +18,8 @@ use Rattle.rules.specs.Visit.{Ways}
 use Rattle.rules.proofs.Base.{If}
 use Rattle.rules.proofs.Walked.{Walked, Goes, sequentials-walked, all-walked}
 use Rattle.optimize.specs.declared.walk.Walk.{Walk}
-use Rattle.optimize.specs.View.{countOf, tableOf, waysIn, markOf, questionOf, view}
+use Rattle.optimize.specs.Bounds.{countOf, mostNodes, roomOf, rowsEnd}
+use Rattle.optimize.specs.View.{tableOf, waysIn, markOf, questionOf, view}
 use Rattle.optimize.specs.ResultView.{untouched}
 use Rattle.optimize.specs.Lists.{entriesOf}
 use Rattle.optimize.specs.Laid.{Laid}
@@ -46,7 +47,7 @@ unpaid-most p zero f = omega arith
 unpaid-most p (suc c) f = omega (arith, due-most p (f c), unpaid-most p c f)
 
 module _ (g dumps ins reps ss R S : List ℕ) (minimise : Bool) (at count : ℕ) (legal : AllLegal (tableOf g)) (listed : All (Sequential (tableOf g)) ss)
-    (small : countOf g ≤ 4096) (whole : 1 + 6 * countOf g ≤ length g) (room : 22 * countOf g + 22 ≤ length R) (enough : 14 * countOf g ≤ at) (inside : at ≤ length S)
+    (small : countOf g ≤ mostNodes) (whole : rowsEnd (countOf g) ≤ length g) (room : roomOf (countOf g) ≤ length R) (enough : 14 * countOf g ≤ at) (inside : at ≤ length S)
     (e : judgeSequentials (tableOf g) (start (tableOf g) ins reps) ss ≡ (view [] g ins reps R S untouched, entriesOf S at count)) where
   abbrev ways : Ways
   ways = waysIn dumps minimise reps

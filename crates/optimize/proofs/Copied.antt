@@ -8,7 +8,8 @@ use lib.ListN.{length, getD, take, drop, length-take, List·getD-append}
 use lib.Seq.{getD-take, getD-append-add, ext-getD, paste, take-paste, length-paste, length-take-le}
 use Rattle.rules.specs.Walk.{Held}
 use Rattle.optimize.specs.declared.walk.Walk.{Walk}
-use Rattle.optimize.specs.View.{countOf, view}
+use Rattle.optimize.specs.Bounds.{countOf}
+use Rattle.optimize.specs.View.{view}
 use Rattle.optimize.specs.Lists.{entriesOf}
 use Rattle.optimize.proofs.Views.{marks-same, asked-same}
 use Rattle.optimize.proofs.Entries.{entries-length, entry-at}

@@ -30,7 +30,8 @@ use Rattle.rules.proofs.Laws.{replacement-before, replacement-sort, row-keeps, 
 use Rattle.rules.proofs.Call.{passed, demand3-of-call}
 use Rattle.rules.proofs.Numbered.{accepted-answer}
 use Rattle.optimize.specs.declared.walk.Optimized.{Optimized}
-use Rattle.optimize.specs.View.{countOf, nodeOf}
+use Rattle.optimize.specs.Bounds.{countOf}
+use Rattle.optimize.specs.View.{nodeOf}
 use Rattle.optimize.specs.Demand.{Contract, constantsOn, replacementsOn, times, sortIn, worthIn, SortsIn, KeepsIn, Kept, Demand3OfResult}
 use Rattle.optimize.proofs.EntryLaws.{well-formed}
 use Rattle.optimize.proofs.ReadBack.{ReadBack, read-back}

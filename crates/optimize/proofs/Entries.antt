@@ -25,7 +25,9 @@ use Rattle.tables.specs.Refusals.{refusalOf}
 use Rattle.optimize.specs.declared.walk.Walk.{Walk}
 use Rattle.optimize.specs.declared.walk.Visited.{Visited}
 use Rattle.optimize.specs.declared.walk.Walked.{Walked}
-use Rattle.optimize.specs.View.{countOf, wordOf, tableOf, waysIn, markBy, view, outcomeOf, Meets}
+use Rattle.optimize.specs.Bounds.{countOf}
+use Rattle.rules.specs.Sections.{wordOf}
+use Rattle.optimize.specs.View.{tableOf, waysIn, markBy, view, outcomeOf, Meets}
 use Rattle.optimize.specs.Process.{visitOf}
 use Rattle.optimize.specs.Laid.{Laid}
 use Rattle.optimize.specs.Lists.{Table, entriesOf, joined, walkedOf}

@@ -15,7 +15,7 @@ use lib.Dec.{eqb}
 use lib.ListN.{length, getD, take, drop, replicate}
 use Rattle.btor.specs.Operators.{bit}
 use Rattle.rules.specs.Refusal.{Refusal, Out, refused, done, _>>=_}
-use Rattle.rules.specs.Table.{Row, Node, kindOf, kindCode}
+use Rattle.rules.specs.Table.{Row, Node, kindOf, kindCode, rowWidth}
 use Rattle.rules.specs.Model.{Model, Mode}
 use Rattle.rules.specs.Check.{knownKind, check}
 use Rattle.rules.specs.Legal.{WellFormed, noRow, rowAt, Accepted}
@@ -39,7 +39,8 @@ use Rattle.tables.specs.declared.judge.Verdict.{Verdict}
 use Rattle.tables.proofs.JudgeLaws.{row-words, rows-count}
 use Rattle.tables.proofs.NameLaws.{accepted-mark}
 use Rattle.optimize.specs.declared.walk.Optimized.{Optimized}
-use Rattle.optimize.specs.View.{countOf, wordOf}
+use Rattle.optimize.specs.Bounds.{countOf}
+use Rattle.rules.specs.Sections.{wordOf}
 use Rattle.optimize.specs.ResultView.{KindsKnown}
 use Rattle.optimize.specs.Runs.{Ends, Runs, modeIn}
 use Rattle.optimize.specs.CallWords.{between}
@@ -131,8 +132,8 @@ module _ (ws : List ℕ) (s : Sections) (h : IsCut ws s) where
   -- rule 3 of each row: its code is that of a kind
   code-in : (k : ℕ) → k < countOf ws → rowAt (rowsIn ws s) k .code ≡ wordOf ws k 0
   code-in k l =
-      let at : 6 * k + 1 ≡ 1 + 6 * k + 0 = omega arith in
-      ap (λ (r : Row). r .code) (row-at house ws (sectionsIn ws s) (h .whole) k noRow (omega (arith, count-is ws s h, rows-count ws s h)) ∙ row-words ws (6 * k + 1))
+      let at : rowWidth * k + 1 ≡ 1 + rowWidth * k + 0 = omega arith in
+      ap (λ (r : Row). r .code) (row-at house ws (sectionsIn ws s) (h .whole) k noRow (omega (arith, count-is ws s h, rows-count ws s h)) ∙ row-words ws (rowWidth * k + 1))
       ∙ ap (λ (n : ℕ). getD ws n 0) at
 
   pub kinds-known : (names : List (List ℕ)) → check (length names) (rowsIn ws s) (modelFrom names (sectionsIn ws s)) ≡ none → KindsKnown ws

@@ -25,7 +25,9 @@ use Rattle.optimize.specs.declared.walk.Visited.{Visited}
 use Rattle.optimize.specs.declared.fold.Constant.{Constant}
 use Rattle.optimize.specs.declared.memory.Found.{Found}
 use Rattle.optimize.specs.declared.memory.Search.{Search}
-use Rattle.optimize.specs.View.{countOf, wordOf, nodeOf, tableOf, rowsOf, view, outcomeOf, constantIs, waysIn, Meets}
+use Rattle.optimize.specs.Bounds.{countOf}
+use Rattle.rules.specs.Sections.{wordOf}
+use Rattle.optimize.specs.View.{nodeOf, tableOf, rowsOf, view, outcomeOf, constantIs, waysIn, Meets}
 use Rattle.optimize.specs.Folding.{foldTwo, asksBit, valueIs, searchIs}
 use Rattle.optimize.specs.Process.{isStays, isRead, thenAsk, settleThen, bitOf, takeOf, afterOne, afterTwo, foldedTwo, afterIte}
 use Rattle.optimize.proofs.Steps.{table-length}

@@ -1,4 +1,4 @@
--- The rules' process of a node is what its form says, and the operands that its form visits stand before it.
+-- The rules' process of a node, over any way to visit, is what its form says, and the operands that its form visits stand before it.
 -- Assumes nothing.
 use Prim.Native.Nat.{ℕ, _<_}
 use mathlib.Core.Path.{_≡_, refl, ap, sym, _∙_, subst}
@@ -12,11 +12,13 @@ use Rattle.rules.specs.Table.{Kind, Const, Read, Write, Word, Ult, Ext, Ite, Eq
 use Rattle.rules.specs.Legal.{AllLegal}
 use Rattle.rules.specs.Walk.{St}
 use Rattle.rules.specs.Fold.{stays, constOf}
-use Rattle.rules.specs.Visit.{Ways, Branch, left, right, undecided, branch, visit1, visit2, visit3, unary, binary, iteOn, process, visit}
+use Rattle.rules.specs.Visit.{Ways, Branch, left, right, undecided, branch, visit1, visit2, visit3, unary, binary, iteOn, process}
 use Rattle.optimize.specs.declared.form.Form.{Form}
-use Rattle.optimize.specs.View.{countOf, wordOf, nodeOf, tableOf, waysIn}
+use Rattle.optimize.specs.Bounds.{countOf}
+use Rattle.rules.specs.Sections.{wordOf}
+use Rattle.optimize.specs.View.{nodeOf, tableOf, waysIn}
 use Rattle.optimize.specs.Folding.{foldTwo, foldOne, asksBit}
-use Rattle.optimize.specs.Process.{formOf, afterOne, afterTwo, takeOf, visitOf, processOf, oneOf, twoOf, threeOf, chosenOf, iteOf, stepOf, byForm, Before}
+use Rattle.optimize.specs.Process.{formOf, afterOne, afterTwo, takeOf, processOf, oneOf, twoOf, threeOf, chosenOf, iteOf, stepOf, byForm, Before}
 use Rattle.optimize.proofs.Steps.{table-length}
 use Rattle.optimize.proofs.Walks.{node-at}
 
@@ -30,53 +32,50 @@ bind-same (refused z) f k h = refl
 bind-same (done x) f k h = h x
 
 -- ---- process by form
-module _ (g dumps replies : List ℕ) (minimise : Bool) (f : ℕ) (σ : St) (k : ℕ) where
+module _ (g dumps replies : List ℕ) (minimise : Bool) (vis : St → ℕ → Out (St × ℕ)) (σ : St) (k : ℕ) where
   abbrev ways : Ways
   ways = waysIn dumps minimise replies
-
-  abbrev vis : St → ℕ → Out (St × ℕ)
-  vis = visit (tableOf g) ways f
 
   abbrev byKind : Kind → Out (St × ℕ)
   byKind K = process (tableOf g) ways vis K σ k (nodeOf g k)
 
-  one-is : (K : Kind) → oneOf g ways f K σ k ≡ (visit1 vis σ k (nodeOf g k) >>= λ p. afterOne g ways K (p .0) k (p .1))
+  one-is : (K : Kind) → oneOf g ways vis K σ k ≡ (visit1 vis σ k (nodeOf g k) >>= λ p. afterOne g ways K (p .0) k (p .1))
   unfolding visit1
-  one-is K = sym (assoc (visitOf g ways f σ (wordOf g k 2)) _ _)
+  one-is K = sym (assoc (vis σ (wordOf g k 2)) _ _)
 
-  two-is : (K : Kind) → twoOf g ways f K σ k ≡ (visit2 vis σ k (nodeOf g k) >>= λ p. afterTwo g ways K (p .0) k (p .1 .0) (p .1 .1))
+  two-is : (K : Kind) → twoOf g ways vis K σ k ≡ (visit2 vis σ k (nodeOf g k) >>= λ p. afterTwo g ways K (p .0) k (p .1 .0) (p .1 .1))
   unfolding visit2
   two-is K =
-      sym (assoc (visitOf g ways f σ (wordOf g k 2)) _ _
-      ∙ bind-same (visitOf g ways f σ (wordOf g k 2)) _ _ (λ p. assoc (visitOf g ways f (p .0) (wordOf g k 3)) _ _))
+      sym (assoc (vis σ (wordOf g k 2)) _ _
+      ∙ bind-same (vis σ (wordOf g k 2)) _ _ (λ p. assoc (vis (p .0) (wordOf g k 3)) _ _))
 
-  three-is : threeOf g ways f σ k ≡ byKind Write
+  three-is : threeOf g ways vis σ k ≡ byKind Write
   unfolding process visit3
   three-is =
-      sym (assoc (visitOf g ways f σ (wordOf g k 2)) _ _
-      ∙ bind-same (visitOf g ways f σ (wordOf g k 2)) _ _ (λ p. assoc (visitOf g ways f (p .0) (wordOf g k 3)) _ _
-      ∙ bind-same (visitOf g ways f (p .0) (wordOf g k 3)) _ _ (λ q. assoc (visitOf g ways f (q .0) (wordOf g k 4)) _ _)))
+      sym (assoc (vis σ (wordOf g k 2)) _ _
+      ∙ bind-same (vis σ (wordOf g k 2)) _ _ (λ p. assoc (vis (p .0) (wordOf g k 3)) _ _
+      ∙ bind-same (vis (p .0) (wordOf g k 3)) _ _ (λ q. assoc (vis (q .0) (wordOf g k 4)) _ _)))
 
-  chosen-is : (br : Branch) (x : ℕ) (τ : St) → chosenOf g ways f br x τ k ≡ iteOn (tableOf g) ways vis τ k (nodeOf g k) x br
+  chosen-is : (br : Branch) (x : ℕ) (τ : St) → chosenOf g ways vis br x τ k ≡ iteOn (tableOf g) ways vis τ k (nodeOf g k) x br
   unfolding chosenOf iteOn
   chosen-is left x τ = refl
   chosen-is right x τ = refl
   chosen-is undecided x τ = rw (table-length g)
 
-  ite-is : iteOf g ways f σ k ≡ byKind Ite
+  ite-is : iteOf g ways vis σ k ≡ byKind Ite
   unfolding process
-  ite-is = bind-same (visitOf g ways f σ (wordOf g k 2)) _ _ (λ p. chosen-is (branch (constOf (p .0 .rows) (p .1))) (p .1) (p .0))
+  ite-is = bind-same (vis σ (wordOf g k 2)) _ _ (λ p. chosen-is (branch (constOf (p .0 .rows) (p .1))) (p .1) (p .0))
 
-  step-is : stepOf g ways f σ k ≡ byKind Next
+  step-is : stepOf g ways vis σ k ≡ byKind Next
   unfolding process
   step-is = refl
 
-  state-is : (b : Bool) → eqb (wordOf g k 3) 1 ≡ b → byForm g ways f (cond b Form.One Form.Free) State σ k ≡ byKind State
+  state-is : (b : Bool) → eqb (wordOf g k 3) 1 ≡ b → byForm g ways vis (cond b Form.One Form.Free) State σ k ≡ byKind State
   unfolding byForm process unary foldOne
   state-is true e = one-is State ∙ sym (ap (λ b. elim b [ true ↦ unary (tableOf g) ways vis σ k (nodeOf g k) (λ x. stays) | false ↦ takeOf g ways σ k ]) e)
   state-is false e = sym (ap (λ b. elim b [ true ↦ unary (tableOf g) ways vis σ k (nodeOf g k) (λ x. stays) | false ↦ takeOf g ways σ k ]) e)
 
-  pub form-is : (K : Kind) → byForm g ways f (formOf K (wordOf g k 3)) K σ k ≡ byKind K
+  pub form-is : (K : Kind) → byForm g ways vis (formOf K (wordOf g k 3)) K σ k ≡ byKind K
   unfolding byForm formOf process unary binary foldOne foldTwo asksBit afterTwo
   form-is Const = rw (table-length g)
   form-is Read = two-is Read
@@ -95,8 +94,8 @@ module _ (g dumps replies : List ℕ) (minimise : Bool) (f : ℕ) (σ : St) (k :
   form-is Bad = one-is Bad
 
   -- where the node's kind is K and its form F
-  pub process-is : (K : Kind) (F : Form) → K ≡ kindOf (wordOf g k 0) → F ≡ formOf K (wordOf g k 3) → byForm g ways f F K σ k ≡ processOf g ways f σ k
-  process-is K F e d = ap (λ z. byForm g ways f z K σ k) d ∙ form-is K ∙ ap byKind e
+  pub process-is : (K : Kind) (F : Form) → K ≡ kindOf (wordOf g k 0) → F ≡ formOf K (wordOf g k 3) → byForm g ways vis F K σ k ≡ processOf g ways vis σ k
+  process-is K F e d = ap (λ z. byForm g ways vis z K σ k) d ∙ form-is K ∙ ap byKind e
 
 -- ---- operands before their node
 before-state : (g : List ℕ) (k : ℕ) (b : Bool) → All (λ x. x < k) (cond b (wordOf g k 2 ∷ []) []) → Before (cond b Form.One Form.Free) g k

@@ -7,7 +7,7 @@ use mathlib.Core.List.{List}
 use native.Mathlib.Omega.{arith}
 use lib.ListN.{getD, take, drop}
 use lib.Seq.{ext-getD}
-use Rattle.rules.specs.Table.{Node, decode, unknown, nodeAt}
+use Rattle.rules.specs.Table.{Node, decode, unknown, nodeAt, rowWidth}
 use Rattle.rules.specs.Limits.{house}
 use Rattle.rules.specs.Sections.{encode}
 use Rattle.tables.specs.SectionAnswers.{sectionsIn, wordsIn, Lies}
@@ -17,7 +17,8 @@ use Rattle.tables.specs.declared.sections.Sections.{Sections}
 use Rattle.tables.proofs.JudgeLaws.{row-words, rows-count, node-in}
 use Rattle.tables.proofs.ListLaws.{table-count}
 use Rattle.rules.proofs.Sections.{encode-cut}
-use Rattle.optimize.specs.View.{countOf, nodeOf, firsts, tableOf}
+use Rattle.optimize.specs.Bounds.{countOf}
+use Rattle.optimize.specs.View.{nodeOf, firsts, tableOf}
 use Rattle.optimize.proofs.Views.{firsts-length, firsts-at}
 
 module _ (ws : List ℕ) (s : Sections) (h : IsCut ws s) where
@@ -27,15 +28,15 @@ module _ (ws : List ℕ) (s : Sections) (h : IsCut ws s) where
   count-is = ap (λ (l : List ℕ). getD l 0 0) (sym (encode-cut house ws (sectionsIn ws s) (h .whole) .0)) ∙ rows-count ws s h
 
   pub node-is : (k : ℕ) → k < s .nodes .count → nodeOf ws k ≡ nodeAt (tableIn ws s) k
-  node-is k l = sym (node-in ws s h k l ∙ ap decode (row-words ws (6 * k + 1)) ∙ places)
+  node-is k l = sym (node-in ws s h k l ∙ ap decode (row-words ws (rowWidth * k + 1)) ∙ places)
     where
-      at : (j : ℕ) → 6 * k + 1 + j ≡ 1 + 6 * k + j
+      at : (j : ℕ) → rowWidth * k + 1 + j ≡ 1 + rowWidth * k + j
       at j = omega arith
 
-      first : 6 * k + 1 ≡ 1 + 6 * k + 0
+      first : rowWidth * k + 1 ≡ 1 + rowWidth * k + 0
       first = omega arith
 
-      places : decode (record { code = getD ws (6 * k + 1) 0; sort = getD ws (6 * k + 1 + 1) 0; a = getD ws (6 * k + 1 + 2) 0; b = getD ws (6 * k + 1 + 3) 0; c = getD ws (6 * k + 1 + 4) 0; name = getD ws (6 * k + 1 + 5) 0 }) ≡ nodeOf ws k
+      places : decode (record { code = getD ws (rowWidth * k + 1) 0; sort = getD ws (rowWidth * k + 1 + 1) 0; a = getD ws (rowWidth * k + 1 + 2) 0; b = getD ws (rowWidth * k + 1 + 3) 0; c = getD ws (rowWidth * k + 1 + 4) 0; name = getD ws (rowWidth * k + 1 + 5) 0 }) ≡ nodeOf ws k
       places = rw (at 1, at 2, at 3, at 4, at 5, first)
 
   pub table-is : tableOf ws ≡ tableIn ws s

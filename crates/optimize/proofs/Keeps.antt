@@ -21,7 +21,9 @@ use Rattle.rules.proofs.Structure.{visit-went}
 use Rattle.optimize.specs.declared.walk.Walk.{Walk}
 use Rattle.optimize.specs.declared.walk.Visited as Answer
 use Rattle.optimize.specs.declared.form.Form.{Form}
-use Rattle.optimize.specs.View.{countOf, wordOf, nodeOf, Coded, rowOf, RowKept, tableOf, waysIn, rowsOf, markOf, questionOf, view}
+use Rattle.optimize.specs.Bounds.{countOf}
+use Rattle.rules.specs.Sections.{wordOf}
+use Rattle.optimize.specs.View.{nodeOf, Coded, rowOf, RowKept, tableOf, waysIn, rowsOf, markOf, questionOf, view}
 use Rattle.optimize.specs.Folding.{Falls}
 use Rattle.optimize.specs.Process.{visitOf, formOf}
 use Rattle.optimize.specs.Laid.{Laid, Room, Visits}

@@ -16,7 +16,8 @@ use Rattle.rules.specs.Whole.{lastQuestion}
 use Rattle.optimize.specs.declared.walk.Walk.{Walk}
 use Rattle.optimize.specs.declared.smt_solver.Asked.{Asked}
 use Rattle.optimize.specs.declared.last_question.Answered.{Answered}
-use Rattle.optimize.specs.View.{countOf, firsts, questionOf, view}
+use Rattle.optimize.specs.Bounds.{countOf}
+use Rattle.optimize.specs.View.{firsts, questionOf, view}
 use Rattle.optimize.specs.Process.{askedOf}
 use Rattle.optimize.specs.LastQuestion.{answeredOf, verdictThen, unnamed, withoutBads, forgotten}
 

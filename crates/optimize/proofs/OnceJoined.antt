@@ -23,7 +23,8 @@ use Rattle.optimize.specs.declared.walk.Walk.{Walk}
 use Rattle.optimize.specs.declared.walk.Optimized.{Optimized}
 use Rattle.optimize.specs.declared.last_question.Answered.{Answered}
 use Rattle.optimize.specs.declared.result.Kept.{Kept}
-use Rattle.optimize.specs.View.{countOf, tableOf, waysIn, questionOf, view}
+use Rattle.optimize.specs.Bounds.{countOf}
+use Rattle.optimize.specs.View.{tableOf, waysIn, questionOf, view}
 use Rattle.optimize.specs.ResultView.{foldedIn, Handed}
 use Rattle.optimize.specs.Lists.{entriesOf}
 use Rattle.optimize.specs.Laid.{Laid}

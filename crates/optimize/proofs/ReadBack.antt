@@ -10,14 +10,16 @@ use native.Mathlib.Nat.{zero-add, mul-le-mul-right}
 use lib.ListN.{length, getD, drop, List·getD-append}
 use lib.Seq.{take-at, drop-at, getD-append-add}
 use Rattle.rules.specs.Lists.{sum}
-use Rattle.rules.specs.Table.{Kind, Node, kindOf}
+use Rattle.rules.specs.Table.{Kind, Node, kindOf, rowWidth}
 use Rattle.rules.specs.Model.{Model}
 use Rattle.rules.specs.Walk.{St, Mark, fresh, kept, replaced}
 use Rattle.rules.specs.Whole.{Folded}
 use Rattle.rules.specs.Result.{nodeWords, constWords, markWords, isReplaced, gather, questionWords, listed, tallyOf, resultWords}
 use Rattle.rules.proofs.Base.{inside-or-past, kind-of-code}
 use Rattle.rules.proofs.Flat.{gather-size, gather-at, marks-snoc, marks-size}
-use Rattle.optimize.specs.View.{countOf, wordOf, nodeOf}
+use Rattle.optimize.specs.Bounds.{countOf}
+use Rattle.rules.specs.Sections.{wordOf}
+use Rattle.optimize.specs.View.{nodeOf}
 use Rattle.optimize.specs.Demand.{after, constantsOn, replacementsOn, initialOn, laterOn, listIn}
 
 -- ---- one section
@@ -171,7 +173,7 @@ module _ (m : Model) (f : Folded) (rest : List ℕ) where
 
   row-word : (k i : ℕ) → k < n → i < 6 → wordOf (n ∷ rowWords ++ from-2) k i ≡ getD (nodeWords (σ .rows k)) i 0
   row-word k i l h =
-      let e : 1 + 6 * k + i ≡ suc (k * 6 + i) = omega arith in
+      let e : 1 + rowWidth * k + i ≡ suc (k * 6 + i) = omega arith in
       ap (λ j. getD (n ∷ rowWords ++ from-2) j 0) e ∙ word-in 6 n 0 (λ k. nodeWords (σ .rows k)) from-2 (λ i. refl) k i l h
       ∙ ap (λ j. getD (nodeWords (σ .rows j)) i 0) (zero-add k)
 

@@ -13,7 +13,8 @@ use Rattle.rules.specs.Lists.{sum}
 use Rattle.rules.specs.Table.{kindOf, kindCode, nodeAt}
 use Rattle.rules.specs.Model.{Model}
 use Rattle.rules.specs.Result.{gather, questionWords, resultWords}
-use Rattle.optimize.specs.View.{wordOf, nodeOf, firsts, tableOf, rowsOf, markOf, view}
+use Rattle.rules.specs.Sections.{wordOf}
+use Rattle.optimize.specs.View.{nodeOf, firsts, tableOf, rowsOf, markOf, view}
 use Rattle.optimize.specs.Demand.{replacementsOn, sortIn, byteTable, wordsWith, SortsCanFail}
 use Rattle.optimize.specs.ResultView.{Finished, ModelOf, foldedIn}
 use Rattle.optimize.specs.declared.walk.Walk.{Walk}

@@ -10,13 +10,15 @@ use native.Mathlib.Omega.{arith}
 use lib.ListN.{length, getD, take, drop, replicate, length-drop}
 use lib.Seq.{take-suc, take-add, take-all, drop-drop, getD-drop, length-take-le}
 use Rattle.rules.specs.Lists.{sum}
-use Rattle.rules.specs.Table.{kindOf, kindCode}
+use Rattle.rules.specs.Table.{kindOf, kindCode, rowWidth}
 use Rattle.rules.specs.Model.{Model}
 use Rattle.rules.specs.Walk.{Question, Held}
 use Rattle.rules.specs.Whole.{Folded}
 use Rattle.rules.specs.Result.{nodeWords, constWords, markWords, isReplaced, gather, questionWords, listed, tallyOf, resultWords}
 use Rattle.rules.proofs.Flat.{gather-snoc}
-use Rattle.optimize.specs.View.{countOf, wordOf, firsts, rowsOf, markOf, questionOf, view}
+use Rattle.optimize.specs.Bounds.{countOf, constantsAt, rowsEnd}
+use Rattle.rules.specs.Sections.{wordOf}
+use Rattle.optimize.specs.View.{firsts, rowsOf, markOf, questionOf, view}
 use Rattle.optimize.specs.Lists.{entriesOf}
 use Rattle.optimize.specs.ResultView.{listsAt, Finished, foldedIn, ModelOf, Wrote, keptWords, restWords, Handed}
 use Rattle.optimize.specs.declared.walk.Walk.{Walk}
@@ -50,31 +52,31 @@ gather-part p (suc c) k a f l h =
 
 -- ---- rows and constants
 module _ (n made : ℕ) (R : List ℕ) where
-  row-words : (j : ℕ) → j < n → 1 + 6 * n ≤ length R → kindCode (kindOf (wordOf R j 0)) ≡ wordOf R j 0
-      → nodeWords (rowsOf n made R (0 + j)) ≡ entriesOf R (1 + 6 * j) 6
+  row-words : (j : ℕ) → j < n → rowsEnd n ≤ length R → kindCode (kindOf (wordOf R j 0)) ≡ wordOf R j 0
+      → nodeWords (rowsOf n made R (0 + j)) ≡ entriesOf R (1 + rowWidth * j) 6
   unfolding firsts
   row-words j h l known =
       ap (λ i. nodeWords (rowsOf n made R i)) (zero-add j) ∙ ap nodeWords (row-below n made R j h ∙ row-coded R j known)
       ∙ ap (λ x. x ∷ wordOf R j 1 ∷ wordOf R j 2 ∷ wordOf R j 3 ∷ wordOf R j 4 ∷ wordOf R j 5 ∷ []) known
-      ∙ sym (words-at 6 (1 + 6 * j) R (omega arith))
+      ∙ sym (words-at 6 (1 + rowWidth * j) R (omega arith))
 
-  rows-words : 1 + 6 * n ≤ length R → ((v : ℕ) → v < n → kindCode (kindOf (wordOf R v 0)) ≡ wordOf R v 0)
-      → gather n 0 (λ k. nodeWords (rowsOf n made R k)) ≡ entriesOf R 1 (6 * n)
+  rows-words : rowsEnd n ≤ length R → ((v : ℕ) → v < n → kindCode (kindOf (wordOf R v 0)) ≡ wordOf R v 0)
+      → gather n 0 (λ k. nodeWords (rowsOf n made R k)) ≡ entriesOf R 1 (rowWidth * n)
   rows-words l known = gather-part 6 n 0 1 (λ k. nodeWords (rowsOf n made R k)) R (λ j h. row-words j h l (known j h))
 
-  const-words : (j : ℕ) → j < 2 + made → 2 + 6 * n + 2 * (2 + made) ≤ length R
-      → constWords (rowsOf n made R (n + j)) ≡ entriesOf R (2 + 6 * n + 2 * j) 2
+  const-words : (j : ℕ) → j < 2 + made → constantsAt n + 2 * (2 + made) ≤ length R
+      → constWords (rowsOf n made R (n + j)) ≡ entriesOf R (constantsAt n + 2 * j) 2
   unfolding firsts
   const-words j h l =
-      let a : ℕ = 2 + 6 * n + 2 * j in
-      let q : 2 + 6 * n + 2 * (n + j - n) ≡ a = omega arith in
+      let a : ℕ = constantsAt n + 2 * j in
+      let q : constantsAt n + 2 * (n + j - n) ≡ a = omega arith in
       ap constWords (row-made n made R (n + j) (omega arith) (omega arith))
       ∙ ap (λ i. getD R i 0 ∷ getD R (i + 1) 0 ∷ []) q
       ∙ ap (λ i. getD R i 0 ∷ getD R (a + 1) 0 ∷ []) (sym (add-zero a))
       ∙ sym (words-at 2 a R (omega arith))
 
-  consts-words : 2 + 6 * n + 2 * (2 + made) ≤ length R → gather (2 + made) n (λ k. constWords (rowsOf n made R k)) ≡ entriesOf R (2 + 6 * n) (2 * (2 + made))
-  consts-words l = gather-part 2 (2 + made) n (2 + 6 * n) (λ k. constWords (rowsOf n made R k)) R (λ j h. const-words j h l)
+  consts-words : constantsAt n + 2 * (2 + made) ≤ length R → gather (2 + made) n (λ k. constWords (rowsOf n made R k)) ≡ entriesOf R (constantsAt n) (2 * (2 + made))
+  consts-words l = gather-part 2 (2 + made) n (constantsAt n) (λ k. constWords (rowsOf n made R k)) R (λ j h. const-words j h l)
 
 -- ---- questions
 question-append : (xs ys : List Question) → questionWords (xs ++ ys) ≡ questionWords xs ++ questionWords ys
@@ -104,7 +106,7 @@ listed-left l t = ap₂ (λ i x. i ∷ x) (length-drop t l) (sym (take-all (leng
 
 -- rows and constants, each after its count
 abbrev pub frontWords : ℕ → ℕ → List ℕ → List ℕ
-frontWords n made R = (n ∷ entriesOf R 1 (6 * n)) ++ ((2 + made) ∷ entriesOf R (2 + 6 * n) (2 * (2 + made)))
+frontWords n made R = (n ∷ entriesOf R 1 (rowWidth * n)) ++ ((2 + made) ∷ entriesOf R (constantsAt n) (2 * (2 + made)))
 
 -- replacements after their count
 abbrev pub pairWords : ℕ → List ℕ → List ℕ
@@ -139,12 +141,12 @@ module _ (h : List Held) (d g inputs replies R S : List ℕ) (w : Walk) (k : Kep
       let e₂ : length (m .replies) - length (drop (w .used) replies) ≡ w .used = omega (arith, ap length (model .replies), length-drop (w .used) replies) in
       ap₂ (λ x y. x ∷ y ∷ w .looked ∷ w .passed ∷ verdict ∷ []) e₁ e₂
 
-  rows-section : length (m .table) ∷ gather (length (m .table)) 0 (λ j. nodeWords (rowsOf n (w .made) R j)) ≡ n ∷ entriesOf R 1 (6 * n)
+  rows-section : length (m .table) ∷ gather (length (m .table)) 0 (λ j. nodeWords (rowsOf n (w .made) R j)) ≡ n ∷ entriesOf R 1 (rowWidth * n)
   rows-section =
       ap (λ i. i ∷ gather i 0 (λ j. nodeWords (rowsOf n (w .made) R j))) (model .nodes)
       ∙ ap (λ x. n ∷ x) (rows-words n (w .made) R (omega (arith, fine .room)) (fine .known))
 
-  consts-section : (2 + w .made) ∷ gather (2 + w .made) (length (m .table)) (λ j. constWords (rowsOf n (w .made) R j)) ≡ (2 + w .made) ∷ entriesOf R (2 + 6 * n) (2 * (2 + w .made))
+  consts-section : (2 + w .made) ∷ gather (2 + w .made) (length (m .table)) (λ j. constWords (rowsOf n (w .made) R j)) ≡ (2 + w .made) ∷ entriesOf R (constantsAt n) (2 * (2 + w .made))
   consts-section =
       ap (λ i. (2 + w .made) ∷ gather (2 + w .made) i (λ j. constWords (rowsOf n (w .made) R j))) (model .nodes)
       ∙ ap (λ x. (2 + w .made) ∷ x) (consts-words n (w .made) R (omega (arith, fine .room, fine .made)))

@@ -12,7 +12,9 @@ use Rattle.rules.specs.Table.{Const, Write, Node, kindOf, kindCode, is}
 use Rattle.rules.specs.Fold.{constOf}
 use Rattle.rules.proofs.Base.{inside-or-past}
 use Rattle.tables.proofs.NodeLaws.{is-code}
-use Rattle.optimize.specs.View.{wordOf, rowsOf}
+use Rattle.rules.specs.Sections.{wordOf}
+use Rattle.optimize.specs.Bounds.{constantsAt}
+use Rattle.optimize.specs.View.{rowsOf}
 use Rattle.optimize.proofs.Views.{row-below, row-made, row-past}
 
 -- ---- Consts, by the code of what stands there
@@ -37,7 +39,7 @@ module _ (n made : ℕ) (R : List ℕ) (k : ℕ) where
   pub constant-no-row : k < n → (wordOf R k 0 ≡ 1 → ⊥) → none ≡ constOf (rowsOf n made R) k
   constant-no-row l e = constant-not-here (rowsOf n made R) k (wordOf R k 0) (row-kind l) e
 
-  pub constant-made : n ≤ k → k - n < 2 + made → some (getD R (2 + 6 * n + 2 * (k - n) + 1) 0) ≡ constOf (rowsOf n made R) k
+  pub constant-made : n ≤ k → k - n < 2 + made → some (getD R (constantsAt n + 2 * (k - n) + 1) 0) ≡ constOf (rowsOf n made R) k
   constant-made l e = sym (ap (λ (nd : Node). constOf (λ _. nd) k) (row-made n made R k l e))
 
   pub constant-none : n ≤ k → 2 + made ≤ k - n → none ≡ constOf (rowsOf n made R) k

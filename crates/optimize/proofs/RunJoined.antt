@@ -17,7 +17,8 @@ use Rattle.tables.specs.declared.refusal.Refusal.{Refusal}
 use Rattle.optimize.specs.declared.walk.Walk.{Walk}
 use Rattle.optimize.specs.declared.walk.Walked.{Walked}
 use Rattle.optimize.specs.declared.walk.Optimized.{Optimized}
-use Rattle.optimize.specs.View.{countOf, tableOf, waysIn, view}
+use Rattle.optimize.specs.Bounds.{countOf}
+use Rattle.optimize.specs.View.{tableOf, waysIn, view}
 use Rattle.optimize.specs.ResultView.{Ready, untouched, listsAt}
 use Rattle.optimize.specs.Lists.{Table, entriesOf, walkedOf, WalksTo}
 use Rattle.optimize.specs.Laid.{Laid}

@@ -15,7 +15,8 @@ use Rattle.rules.specs.Whole.{Bads, bads, Folded, waysOf, judgeSequentials, vis
 use Rattle.optimize.specs.declared.walk.Walk.{Walk}
 use Rattle.optimize.specs.declared.result.Kept.{Kept}
 use Rattle.optimize.specs.declared.result.Sizes.{Sizes}
-use Rattle.optimize.specs.View.{countOf, tableOf, view}
+use Rattle.optimize.specs.Bounds.{countOf}
+use Rattle.optimize.specs.View.{tableOf, view}
 use Rattle.optimize.specs.ResultView.{untouched, listsAt, foldedIn}
 use Rattle.optimize.specs.Lists.{entriesOf}
 use Rattle.optimize.proofs.Entries.{entries-length, entry-at}

@@ -19,7 +19,8 @@ use Rattle.rules.specs.Fold.{constOf}
 use Rattle.rules.specs.Memory.{Found, lost, hit, past, meet, lookAt, find}
 use Rattle.rules.proofs.Search.{Points}
 use Rattle.rules.proofs.Steps.{after, same-found, after-none}
-use Rattle.optimize.specs.View.{wordOf, rowsOf}
+use Rattle.rules.specs.Sections.{wordOf}
+use Rattle.optimize.specs.View.{rowsOf}
 use Rattle.optimize.specs.Folding.{Falls, lookIs, LooksAt}
 use Rattle.optimize.specs.declared.memory.Look.{Look}
 use Rattle.optimize.specs.declared.memory.Look.the-variants.{End, Hit, Settled, Unsettled}

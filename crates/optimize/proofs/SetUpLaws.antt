@@ -9,10 +9,11 @@ use native.Mathlib.Omega.{arith}
 use borrow.Author.Tests.{lt-ltb, le-ltb}
 use lib.ListN.{length, getD, take, drop, set, replicate, length-take, length-replicate, getD-replicate, List·getD-append}
 use lib.Seq.{getD-append-add, getD-take, length-take-le, paste, length-paste, sets, sets-eq}
-use Rattle.rules.specs.Table.{Node, constant, unknown}
+use Rattle.rules.specs.Table.{Node, constant, unknown, rowWidth}
 use Rattle.rules.specs.Walk.{Mark, fresh, startRows, start}
 use Rattle.rules.proofs.Base.{inside-or-past}
-use Rattle.optimize.specs.View.{countOf, nodeOf, firsts, tableOf, rowsOf, markOf, view}
+use Rattle.optimize.specs.Bounds.{countOf, constantsAt, rowsEnd}
+use Rattle.optimize.specs.View.{nodeOf, firsts, tableOf, rowsOf, markOf, view}
 use Rattle.optimize.specs.ResultView.{KindsKnown, Ready, untouched}
 use Rattle.optimize.proofs.Views.{firsts-at, row-same, row-coded, row-below, row-made, row-past}
 use Rattle.optimize.proofs.Steps.{table-length}
@@ -20,33 +21,33 @@ use Rattle.optimize.proofs.Steps.{table-length}
 -- what set_up wrote: the given words, and the shared constants after the word for their count
 pub record SetUp (g R : List ℕ) : Type 0 where
   pub known : KindsKnown g
-  pub rows : (i : ℕ) → i < 1 + 6 * countOf g → getD R i 0 ≡ getD g i 0
-  pub falseSort : getD R (2 + 6 * countOf g) 0 ≡ 1
-  pub falseNumber : getD R (2 + 6 * countOf g + 1) 0 ≡ 0
-  pub trueSort : getD R (2 + 6 * countOf g + 2) 0 ≡ 1
-  pub trueNumber : getD R (2 + 6 * countOf g + 3) 0 ≡ 1
+  pub rows : (i : ℕ) → i < rowsEnd (countOf g) → getD R i 0 ≡ getD g i 0
+  pub falseSort : getD R (constantsAt (countOf g)) 0 ≡ 1
+  pub falseNumber : getD R (constantsAt (countOf g) + 1) 0 ≡ 0
+  pub trueSort : getD R (constantsAt (countOf g) + 2) 0 ≡ 1
+  pub trueNumber : getD R (constantsAt (countOf g) + 3) 0 ≡ 1
 
 module _ (g R : List ℕ) (s : SetUp g R) where
   row-given : (k : ℕ) → k < countOf g → rowsOf (countOf g) 0 R k ≡ startRows (tableOf g) k
   unfolding tableOf
   row-given k h =
       row-below (countOf g) 0 R k h
-      ∙ (row-same R g k (λ j l. s .rows (1 + 6 * k + j) (omega arith))
+      ∙ (row-same R g k (λ j l. s .rows (1 + rowWidth * k + j) (omega arith))
       ∙ row-coded g k (s .known k h)
       ∙ sym (List·getD-append (tableOf g) (constant 1 0 ∷ constant 1 1 ∷ []) unknown k (omega (arith, table-length g)) ∙ firsts-at (countOf g) (nodeOf g) unknown k h))
 
-  row-constant : (j x y p : ℕ) → j < 2 → getD R p 0 ≡ x → getD R (p + 1) 0 ≡ y → p ≡ 2 + 6 * countOf g + 2 * j → rowsOf (countOf g) 0 R (countOf g + j) ≡ constant x y
+  row-constant : (j x y p : ℕ) → j < 2 → getD R p 0 ≡ x → getD R (p + 1) 0 ≡ y → p ≡ constantsAt (countOf g) + 2 * j → rowsOf (countOf g) 0 R (countOf g + j) ≡ constant x y
   row-constant j x y p h ex ey ep =
       let n : ℕ = countOf g in
-      let q : 2 + 6 * n + 2 * (n + j - n) ≡ p = omega arith in
+      let q : constantsAt n + 2 * (n + j - n) ≡ p = omega arith in
       row-made n 0 R (n + j) (omega arith) (omega arith)
       ∙ ap₂ constant (ap (λ i. getD R i 0) q ∙ ex) (ap (λ i. getD R (i + 1) 0) q ∙ ey)
 
   row-shared : (j : ℕ) → rowsOf (countOf g) 0 R (countOf g + j) ≡ getD (constant 1 0 ∷ constant 1 1 ∷ []) j unknown
-  row-shared zero = row-constant 0 1 0 (2 + 6 * countOf g) (omega arith) (s .falseSort) (s .falseNumber) (omega arith)
+  row-shared zero = row-constant 0 1 0 (constantsAt (countOf g)) (omega arith) (s .falseSort) (s .falseNumber) (omega arith)
   row-shared (suc zero) =
-      let q : 2 + 6 * countOf g + 2 + 1 ≡ 2 + 6 * countOf g + 3 = omega arith in
-      row-constant 1 1 1 (2 + 6 * countOf g + 2) (omega arith) (s .trueSort) (ap (λ i. getD R i 0) q ∙ s .trueNumber) (omega arith)
+      let q : constantsAt (countOf g) + 2 + 1 ≡ constantsAt (countOf g) + 3 = omega arith in
+      row-constant 1 1 1 (constantsAt (countOf g) + 2) (omega arith) (s .trueSort) (ap (λ i. getD R i 0) q ∙ s .trueNumber) (omega arith)
   row-shared (suc (suc j)) = row-past (countOf g) 0 R (countOf g + suc (suc j)) (omega arith) (omega arith)
 
   rows-start : rowsOf (countOf g) 0 R ≡ startRows (tableOf g)
@@ -96,21 +97,21 @@ stored-at l p vs h j b =
 abbrev pub stores : ℕ → List ℕ → List ℕ
 stores p l = set (set (set (set l p 1) (p + 1) 0) (p + 2) 1) (p + 3) 1
 
-module _ (g R : List ℕ) (known : KindsKnown g) (fits : 1 + 6 * countOf g ≤ length g) (room : 6 + 6 * countOf g ≤ length R) where
+module _ (g R : List ℕ) (known : KindsKnown g) (fits : rowsEnd (countOf g) ≤ length g) (room : rowWidth + rowWidth * countOf g ≤ length R) where
   abbrev copied : List ℕ
-  copied = paste R 0 (drop 0 g) (1 + 6 * countOf g)
+  copied = paste R 0 (drop 0 g) (rowsEnd (countOf g))
 
-  copied-at : (i : ℕ) → i < 1 + 6 * countOf g → getD copied i 0 ≡ getD g i 0
+  copied-at : (i : ℕ) → i < rowsEnd (countOf g) → getD copied i 0 ≡ getD g i 0
   copied-at i h =
-      List·getD-append (take (1 + 6 * countOf g) g) (drop (0 + (1 + 6 * countOf g)) R) 0 i (omega (arith, length-take (1 + 6 * countOf g) g))
-      ∙ getD-take (1 + 6 * countOf g) g i 0 h
+      List·getD-append (take (rowsEnd (countOf g)) g) (drop (0 + (rowsEnd (countOf g))) R) 0 i (omega (arith, length-take (rowsEnd (countOf g)) g))
+      ∙ getD-take (rowsEnd (countOf g)) g i 0 h
 
   copied-length : length copied ≡ length R
-  copied-length = length-paste R 0 (drop 0 g) (1 + 6 * countOf g) (omega arith) fits
+  copied-length = length-paste R 0 (drop 0 g) (rowsEnd (countOf g)) (omega arith) fits
 
-  stored : SetUp g (stores (2 + 6 * countOf g) copied)
+  stored : SetUp g (stores (constantsAt (countOf g)) copied)
   stored =
-      let p : ℕ = 2 + 6 * countOf g in
+      let p : ℕ = constantsAt (countOf g) in
       let e₁ : p + 1 ≡ suc p = omega arith in
       let e₂ : p + 2 ≡ suc (suc p) = omega arith in
       let e₃ : p + 3 ≡ suc (suc (suc p)) = omega arith in
@@ -128,9 +129,9 @@ module _ (g R : List ℕ) (known : KindsKnown g) (fits : 1 + 6 * countOf g ≤ l
       })
 
 -- P is the part of scratch that was cleared
-pub set-up-left : (g R Q S P : List ℕ) (k : ℕ) → Ready g (length R) (length S) → Q ≡ paste R 0 (drop 0 g) (1 + 6 * countOf g) → k ≡ countOf g → P ≡ replicate (length (take k S)) 0
-    → (inputs replies : List ℕ) → view [] g inputs replies (stores (2 + 6 * countOf g) Q) (P ++ drop k S) untouched ≡ start (tableOf g) inputs replies
+pub set-up-left : (g R Q S P : List ℕ) (k : ℕ) → Ready g (length R) (length S) → Q ≡ paste R 0 (drop 0 g) (rowsEnd (countOf g)) → k ≡ countOf g → P ≡ replicate (length (take k S)) 0
+    → (inputs replies : List ℕ) → view [] g inputs replies (stores (constantsAt (countOf g)) Q) (P ++ drop k S) untouched ≡ start (tableOf g) inputs replies
 set-up-left g R Q S P k r q e t inputs replies =
     let l : length (take k S) ≡ k = length-take-le k S (omega arith) in
     rw (q, t)
-    (view-start g (stores (2 + 6 * countOf g) (paste R 0 (drop 0 g) (1 + 6 * countOf g))) (length (take k S)) (drop k S) inputs replies (stored g R (r .known) (r .whole) (omega arith)) (omega arith))
+    (view-start g (stores (constantsAt (countOf g)) (paste R 0 (drop 0 g) (rowsEnd (countOf g)))) (length (take k S)) (drop k S) inputs replies (stored g R (r .known) (r .whole) (omega arith)) (omega arith))

@@ -16,7 +16,8 @@ use Rattle.optimize.specs.declared.walk.Walk.{Walk}
 use Rattle.optimize.specs.declared.walk.Visited.{Visited}
 use Rattle.optimize.specs.declared.fold.Folded.{Folded}
 use Rattle.optimize.specs.declared.smt_solver.Asked.{Asked}
-use Rattle.optimize.specs.View.{countOf, nodeOf, tableOf, view, markBy, outcomeOf, foldIs}
+use Rattle.optimize.specs.Bounds.{countOf}
+use Rattle.optimize.specs.View.{nodeOf, tableOf, view, markBy, outcomeOf, foldIs}
 use Rattle.optimize.specs.Process.{askedOf}
 use Rattle.optimize.proofs.Views.{four, four-below, four-0, four-1, four-2, four-3, firsts-length, marks-same, asked-more}
 

@@ -7,19 +7,21 @@ use native.Mathlib.Numerals.{add-one}
 use native.Mathlib.Omega.{arith}
 use lib.ListN.{length, getD, drop, set, length-set}
 use lib.Seq.{getD-set-same, getD-set-other, drop-set-lt}
-use Rattle.rules.specs.Table.{kindOf, with}
+use Rattle.rules.specs.Table.{kindOf, with, rowWidth}
 use Rattle.rules.specs.Walk.{Held, setRow, setMark, addConst}
 use Rattle.optimize.specs.declared.walk.Walk.{Walk}
-use Rattle.optimize.specs.View.{countOf, wordOf, nodeOf, sortBy, rowOf, RowKept, markBy, view}
+use Rattle.optimize.specs.Bounds.{countOf, constantsAt}
+use Rattle.rules.specs.Sections.{wordOf}
+use Rattle.optimize.specs.View.{nodeOf, sortBy, rowOf, RowKept, markBy, view}
 use Rattle.optimize.proofs.Views.{sort-same, rows-pushed, rows-put, marks-put, asked-same}
 
 module _ (h : List Held) (g inputs replies R S : List ℕ) (w : Walk) where
-  pub pushed : (n s x : ℕ) → n ≡ countOf g → 2 + 6 * n + 2 * (2 + w .made) + 1 < length R
-      → view h g inputs replies (set (set R (2 + 6 * n + 2 * (2 + w .made)) s) (2 + 6 * n + 2 * (2 + w .made) + 1) x) S (record { made = w .made + 1; taken = w .taken; used = w .used; asked = w .asked; looked = w .looked; passed = w .passed })
+  pub pushed : (n s x : ℕ) → n ≡ countOf g → constantsAt n + 2 * (2 + w .made) + 1 < length R
+      → view h g inputs replies (set (set R (constantsAt n + 2 * (2 + w .made)) s) (constantsAt n + 2 * (2 + w .made) + 1) x) S (record { made = w .made + 1; taken = w .taken; used = w .used; asked = w .asked; looked = w .looked; passed = w .passed })
       ≡ addConst (view h g inputs replies R S w) (countOf g + 2 + w .made) s x
   unfolding view
   pushed n s x i room =
-      let e : ℕ = 2 + 6 * countOf g + 2 * (2 + w .made) in
+      let e : ℕ = constantsAt (countOf g) + 2 * (2 + w .made) in
       rw (
         i,
         rows-pushed (countOf g) (w .made) R (set (set R e s) (e + 1) x) s x
@@ -44,11 +46,11 @@ module _ (h : List Held) (g inputs replies R S : List ℕ) (w : Walk) where
         asked-same (countOf g) (w .asked) S T (λ j a b. getD-set-other (set S k m) (countOf g + k) j r 0 (λ q. omega arith) ∙ getD-set-other S k j m 0 (λ q. omega arith)),
       )
 
-  pub rowed : (k x y z a b c : ℕ) → k < countOf g → 6 + 6 * k < length R → RowKept g R k → x ≡ a → y ≡ b → z ≡ c
-      → view h g inputs replies (set (set (set R (1 + 6 * k + 2) x) (1 + 6 * k + 3) y) (1 + 6 * k + 4) z) S w ≡ setRow (view h g inputs replies R S w) k (with (nodeOf g k) a b c)
+  pub rowed : (k x y z a b c : ℕ) → k < countOf g → rowWidth + rowWidth * k < length R → RowKept g R k → x ≡ a → y ≡ b → z ≡ c
+      → view h g inputs replies (set (set (set R (1 + rowWidth * k + 2) x) (1 + rowWidth * k + 3) y) (1 + rowWidth * k + 4) z) S w ≡ setRow (view h g inputs replies R S w) k (with (nodeOf g k) a b c)
   unfolding view
   rowed k x y z a b c l room kept ex ey ez =
-      let e : ℕ = 1 + 6 * k in
+      let e : ℕ = 1 + rowWidth * k in
       let P : List ℕ = set R (e + 2) x in
       let O : List ℕ = set P (e + 3) y in
       let Q : List ℕ = set O (e + 4) z in

@@ -10,12 +10,14 @@ use lib.Dec.{ltb, eqb, lit<}
 use lib.ListN.{length, getD, set, length-set, length-append, List·getD-append}
 use lib.Seq.{getD-set-same, getD-set-other, getD-append-seam}
 use borrow.Author.Tests.{ltb-true, ltb-false, eqb-true, eqb-false, lt-ltb, le-ltb, eq-eqb}
-use Rattle.rules.specs.Table.{Node, kindOf, kindCode, constant, unknown}
+use Rattle.rules.specs.Table.{Node, kindOf, kindCode, constant, unknown, rowWidth}
 use Rattle.rules.specs.Lists.{put}
 use Rattle.rules.specs.Walk.{fresh}
 use Rattle.rules.specs.Questions.{question}
 use Rattle.rules.proofs.Base.{put-other}
-use Rattle.optimize.specs.View.{wordOf, nodeOf, Coded, sortBy, rowOf, firsts, rowsOf, markBy, markOf, questionOf}
+use Rattle.rules.specs.Sections.{wordOf}
+use Rattle.optimize.specs.Bounds.{constantsAt, rowsEnd}
+use Rattle.optimize.specs.View.{nodeOf, Coded, sortBy, rowOf, firsts, rowsOf, markBy, markOf, questionOf}
 
 pub split : {P : Type 0} (k n : ℕ) → (k < n → P) → (n ≤ k → P) → P
 split {P} k n f g = go (ltb k n) refl
@@ -63,7 +65,7 @@ module _ (n m : ℕ) (R : List ℕ) (k : ℕ) where
   unfolding rowsOf
   row-below h = rw (rowsOf, lt-ltb k n h)
 
-  pub row-made : n ≤ k → k - n < 2 + m → rowsOf n m R k ≡ constant (getD R (2 + 6 * n + 2 * (k - n)) 0) (getD R (2 + 6 * n + 2 * (k - n) + 1) 0)
+  pub row-made : n ≤ k → k - n < 2 + m → rowsOf n m R k ≡ constant (getD R (constantsAt n + 2 * (k - n)) 0) (getD R (constantsAt n + 2 * (k - n) + 1) 0)
   unfolding rowsOf
   row-made h l = rw (rowsOf, le-ltb k n h, lt-ltb (k - n) (2 + m) l)
 
@@ -95,14 +97,14 @@ coded-sort c s h = go (eqb (kindCode (kindOf c)) c) refl
     go false e = absurd (h (ap (λ b. cond b s 0) e))
 
 -- the words of a constant that was made before
-made-same : (n m k : ℕ) (Q R : List ℕ) → n ≤ k → k - n < 2 + m → ((i : ℕ) → 1 + 6 * n < i → i < 2 + 6 * n + 2 * (2 + m) → getD Q i 0 ≡ getD R i 0)
-    → constant (getD Q (2 + 6 * n + 2 * (k - n)) 0) (getD Q (2 + 6 * n + 2 * (k - n) + 1) 0) ≡ constant (getD R (2 + 6 * n + 2 * (k - n)) 0) (getD R (2 + 6 * n + 2 * (k - n) + 1) 0)
-made-same n m k Q R l h s = cc (s (2 + 6 * n + 2 * (k - n)) (omega arith) (omega arith), s (2 + 6 * n + 2 * (k - n) + 1) (omega arith) (omega arith))
+made-same : (n m k : ℕ) (Q R : List ℕ) → n ≤ k → k - n < 2 + m → ((i : ℕ) → rowsEnd n < i → i < constantsAt n + 2 * (2 + m) → getD Q i 0 ≡ getD R i 0)
+    → constant (getD Q (constantsAt n + 2 * (k - n)) 0) (getD Q (constantsAt n + 2 * (k - n) + 1) 0) ≡ constant (getD R (constantsAt n + 2 * (k - n)) 0) (getD R (constantsAt n + 2 * (k - n) + 1) 0)
+made-same n m k Q R l h s = cc (s (constantsAt n + 2 * (k - n)) (omega arith) (omega arith), s (constantsAt n + 2 * (k - n) + 1) (omega arith) (omega arith))
 
 -- one more constant
 module _ (n m : ℕ) (R Q : List ℕ) (s x : ℕ)
-    (before : (i : ℕ) → i < 2 + 6 * n + 2 * (2 + m) → getD Q i 0 ≡ getD R i 0)
-    (put-s : getD Q (2 + 6 * n + 2 * (2 + m)) 0 ≡ s) (put-x : getD Q (2 + 6 * n + 2 * (2 + m) + 1) 0 ≡ x) where
+    (before : (i : ℕ) → i < constantsAt n + 2 * (2 + m) → getD Q i 0 ≡ getD R i 0)
+    (put-s : getD Q (constantsAt n + 2 * (2 + m)) 0 ≡ s) (put-x : getD Q (constantsAt n + 2 * (2 + m) + 1) 0 ≡ x) where
   row-pushed : (k : ℕ) → k ≡ n + 2 + m → rowsOf n (m + 1) Q k ≡ constant s x
   row-pushed k e =
       let d : k - n ≡ 2 + m = omega arith in
@@ -111,7 +113,7 @@ module _ (n m : ℕ) (R Q : List ℕ) (s x : ℕ)
   row-kept : (k : ℕ) → (k ≡ n + 2 + m → ⊥) → rowsOf n (m + 1) Q k ≡ rowsOf n m R k
   row-kept k d =
       split k n
-      (λ l. row-below n (m + 1) Q k l ∙ row-same Q R k (λ j h. before (1 + 6 * k + j) (omega arith)) ∙ sym (row-below n m R k l))
+      (λ l. row-below n (m + 1) Q k l ∙ row-same Q R k (λ j h. before (1 + rowWidth * k + j) (omega arith)) ∙ sym (row-below n m R k l))
       (λ l.
       split (k - n) (2 + m)
       (λ h. row-made n (m + 1) Q k l (omega arith) ∙ made-same n m k Q R l h (λ i _ j. before i j) ∙ sym (row-made n m R k l h))
@@ -125,11 +127,11 @@ module _ (n m : ℕ) (R Q : List ℕ) (s x : ℕ)
 
 -- another row at k
 module _ (n m : ℕ) (R Q : List ℕ) (k : ℕ) (nd : Node) (l : k < n)
-    (others : (i : ℕ) → (1 + 6 * k ≤ i → i < 7 + 6 * k → ⊥) → getD Q i 0 ≡ getD R i 0) (here : rowOf Q k ≡ nd) where
+    (others : (i : ℕ) → (1 + rowWidth * k ≤ i → i < 1 + rowWidth + rowWidth * k → ⊥) → getD Q i 0 ≡ getD R i 0) (here : rowOf Q k ≡ nd) where
   row-other : (j : ℕ) → (j ≡ k → ⊥) → rowsOf n m Q j ≡ rowsOf n m R j
   row-other j d =
       split j n
-      (λ h. row-below n m Q j h ∙ row-same Q R j (λ i q. others (1 + 6 * j + i) (λ a b. d (omega arith))) ∙ sym (row-below n m R j h))
+      (λ h. row-below n m Q j h ∙ row-same Q R j (λ i q. others (1 + rowWidth * j + i) (λ a b. d (omega arith))) ∙ sym (row-below n m R j h))
       (λ h.
       split (j - n) (2 + m)
       (λ q. row-made n m Q j h q ∙ made-same n m j Q R h q (λ i a _. others i (λ _ b. omega arith)) ∙ sym (row-made n m R j h q))

@@ -18,6 +18,8 @@ use Rattle.rules.specs.Lists.{sum}
 use Rattle.rules.specs.Walk.{fresh, kept, replaced}
 use Rattle.rules.specs.Result.{gather, isReplaced, markWords, listed}
 use Rattle.rules.proofs.Flat.{gather-snoc}
+use Rattle.rules.specs.Table.{rowWidth}
+use Rattle.optimize.specs.Bounds.{constantsAt, roomOf, rowsEnd}
 use Rattle.optimize.specs.View.{markBy, markOf}
 use Rattle.optimize.specs.Lists.{entriesOf}
 use Rattle.optimize.specs.ResultView.{Wrote}
@@ -67,19 +69,19 @@ counts-front x v c m p R h =
     ∙ ap₂ (λ a b. a ++ take (suc p) b) (take-set-le m R m c (omega arith))
     (drop-cons (set R m c) m 0 l ∙ ap₂ (λ a b. a ∷ b) (getD-set-same R m c 0 h) (drop-set-lt (suc m) R m c (omega arith))))
 
-pub wrote-counts : (R : List ℕ) (n made : ℕ) → made ≤ n → 22 * n + 22 ≤ length R
-    → Wrote R (set (set R 0 n) (1 + 6 * n) (2 + made)) 0 (2 + 6 * n + 2 * (2 + made))
-    ((n ∷ entriesOf R 1 (6 * n)) ++ ((2 + made) ∷ entriesOf R (2 + 6 * n) (2 * (2 + made))))
+pub wrote-counts : (R : List ℕ) (n made : ℕ) → made ≤ n → roomOf n ≤ length R
+    → Wrote R (set (set R 0 n) (rowsEnd n) (2 + made)) 0 (constantsAt n + 2 * (2 + made))
+    ((n ∷ entriesOf R 1 (rowWidth * n)) ++ ((2 + made) ∷ entriesOf R (constantsAt n) (2 * (2 + made))))
 wrote-counts [] n made h l = let o : ⊥ = omega arith in absurd o
 wrote-counts (x ∷ R) n made h l =
-    let e₁ : 1 + 6 * n ≡ suc (6 * n) = omega arith in
-    let e₂ : 2 + 6 * n + 2 * (2 + made) ≡ suc (6 * n + suc (2 * (2 + made))) = omega arith in
-    let e₃ : 2 + 6 * n ≡ suc (suc (6 * n)) = omega arith in
+    let e₁ : rowsEnd n ≡ suc (rowWidth * n) = omega arith in
+    let e₂ : constantsAt n + 2 * (2 + made) ≡ suc (rowWidth * n + suc (2 * (2 + made))) = omega arith in
+    let e₃ : constantsAt n ≡ suc (suc (rowWidth * n)) = omega arith in
     record {
       front =
-          ap₂ (λ i j. take i (set (set (x ∷ R) 0 n) j (2 + made))) e₂ e₁ ∙ counts-front x n (2 + made) (6 * n) (2 * (2 + made)) R (omega arith)
-          ∙ ap (λ i. (n ∷ entriesOf (x ∷ R) 1 (6 * n)) ++ ((2 + made) ∷ entriesOf (x ∷ R) i (2 * (2 + made)))) (sym e₃);
-      fits = omega (arith, length-set (set (x ∷ R) 0 n) (1 + 6 * n) (2 + made));
+          ap₂ (λ i j. take i (set (set (x ∷ R) 0 n) j (2 + made))) e₂ e₁ ∙ counts-front x n (2 + made) (rowWidth * n) (2 * (2 + made)) R (omega arith)
+          ∙ ap (λ i. (n ∷ entriesOf (x ∷ R) 1 (rowWidth * n)) ++ ((2 + made) ∷ entriesOf (x ∷ R) i (2 * (2 + made)))) (sym e₃);
+      fits = omega (arith, length-set (set (x ∷ R) 0 n) (rowsEnd n) (2 + made));
     }
 
 pub wrote-tally : (R : List ℕ) (at a b c d e : ℕ) → at + 6 ≤ length R

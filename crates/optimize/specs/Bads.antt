@@ -20,7 +20,8 @@ use Rattle.optimize.specs.declared.walk.Walk.{Walk}
 use Rattle.optimize.specs.declared.bads.Judging.{Judging}
 use Rattle.optimize.specs.declared.bads.Retained.{Retained}
 use Rattle.optimize.specs.declared.bads.Judged.{Judged}
-use Rattle.optimize.specs.View.{countOf, tableOf, markOf, view}
+use Rattle.optimize.specs.Bounds.{countOf}
+use Rattle.optimize.specs.View.{tableOf, markOf, view}
 use Rattle.optimize.specs.Laid.{Laid}
 use Rattle.optimize.specs.Lists.{entriesOf}
 

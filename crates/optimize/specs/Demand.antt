@@ -15,12 +15,13 @@ use lib.Dec.{ltb, eqb}
 use Rattle.btor.specs.Operators.{Reading, bit}
 use Rattle.rules.specs.Refusal.{done}
 use Rattle.rules.specs.Limits.{house}
-use Rattle.rules.specs.Table.{And, Node, constant, nodeAt}
+use Rattle.rules.specs.Table.{And, Node, constant, nodeAt, rowWidth}
 use Rattle.rules.specs.Model.{Model}
 use Rattle.rules.specs.Value.{Value, number, worth, value}
 use Rattle.rules.specs.Call.{Entry, Call, Accepted, outcome, wordsOf, left, FaithfulTo, Premises}
 use Rattle.optimize.specs.declared.walk.Optimized.{Optimized}
-use Rattle.optimize.specs.View.{countOf, nodeOf}
+use Rattle.optimize.specs.Bounds.{countOf}
+use Rattle.optimize.specs.View.{nodeOf}
 use Rattle.optimize.specs.Lists.{entriesOf}
 use Rattle.optimize.specs.Entries.{answered}
 
@@ -36,7 +37,7 @@ abbrev pub after : ℕ → List ℕ → List ℕ
 after width ws = drop (1 + width * countOf ws) ws
 
 abbrev pub constantsOn : List ℕ → List ℕ
-constantsOn Q = after 6 Q
+constantsOn Q = after rowWidth Q
 
 abbrev pub replacementsOn : List ℕ → List ℕ
 replacementsOn Q = after 2 (constantsOn Q)

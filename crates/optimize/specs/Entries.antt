@@ -13,7 +13,8 @@ use Rattle.rules.specs.Model.{Model}
 use Rattle.rules.specs.Call as rules
 use Rattle.tables.specs.Refusals.{refusalOf}
 use Rattle.tables.specs.SectionAnswers.{sectionsIn}
-use Rattle.tables.specs.Judging.{IsCut}
+use Rattle.rules.specs.Lent.{Lent, was}
+use Rattle.tables.specs.Judging.{IsCut, callWith}
 use Rattle.tables.specs.declared.sections.Part.{Part}
 use Rattle.tables.specs.declared.sections.Sections.{Sections}
 use Rattle.optimize.specs.declared.walk.Optimized.{Optimized}
@@ -65,3 +66,7 @@ modelParts ws dumps s i r = modelIn ws dumps (partOf ws (s .sequentials)) (partO
 unfoldable pub RunnableParts : List ℕ → List ℕ → Sections → ℕ → ℕ → ℕ → ℕ → Type 0
 RunnableParts ws dumps s i r room scratch =
     Runnable ws dumps (partOf ws (s .sequentials)) (partOf ws (s .initial)) (partOf ws (s .later)) (between ws (s .inputs .start) i) (between ws (s .replies .start) r) room scratch
+
+-- the call of an entry point, over the parameters that it is lent
+abbrev pub callLent : ℕ → Lent → Lent → Lent → Lent → rules.Call
+callLent mode words names result scratch = callWith mode (was words) (was names) (length (was result)) (length (was scratch))

@@ -15,29 +15,30 @@ use Rattle.rules.specs.Visit.{Ways}
 use Rattle.rules.proofs.Went.{Fine, fee}
 use Rattle.optimize.specs.declared.walk.Walk.{Walk}
 use Rattle.optimize.specs.declared.walk.Visited.{Visited}
-use Rattle.optimize.specs.View.{countOf, tableOf, waysIn, markOf, view, Meets}
+use Rattle.optimize.specs.Bounds.{countOf, mostLooked, mostNodes, roomOf, rowsEnd}
+use Rattle.optimize.specs.View.{tableOf, waysIn, markOf, view, Meets}
 
 -- held are the states that took an input
 pub record Laid (g dumps inputs replies : List ℕ) (minimise : Bool) (R S : List ℕ) (w : Walk) : Type 0 where
   pub legal : AllLegal (tableOf g)
-  pub small : countOf g ≤ 4096
-  pub whole : 1 + 6 * countOf g ≤ length g
-  pub room : 22 * countOf g + 22 ≤ length R
+  pub small : countOf g ≤ mostNodes
+  pub whole : rowsEnd (countOf g) ≤ length g
+  pub room : roomOf (countOf g) ≤ length R
   pub held : List Held
   pub fine : Fine (tableOf g) (waysIn dumps minimise replies) inputs replies (view held g inputs replies R S w)
   pub few : w .made + unpaid (λ k. 1) (countOf g) (markOf (countOf g) S) ≤ countOf g
   pub asks : 2 * countOf g + 4 * (w .asked + unpaid (λ k. 3) (countOf g) (markOf (countOf g) S)) ≤ length S
-  pub looks : w .looked + unpaid (fee (tableOf g)) (countOf g) (markOf (countOf g) S) ≤ 16777216
+  pub looks : w .looked + unpaid (fee (tableOf g)) (countOf g) (markOf (countOf g) S) ≤ mostLooked
 
 pub record Room (g R S : List ℕ) (w : Walk) (k : ℕ) : Type 0 where
   pub inside : k < countOf g
-  pub small : countOf g ≤ 4096
-  pub whole : 1 + 6 * countOf g ≤ length g
-  pub room : 22 * countOf g + 22 ≤ length R
+  pub small : countOf g ≤ mostNodes
+  pub whole : rowsEnd (countOf g) ≤ length g
+  pub room : roomOf (countOf g) ≤ length R
   pub few : w .made < countOf g
   pub asks : 2 * countOf g + 4 * (w .asked + 3) ≤ length S
-  pub looks : w .looked ≤ 16777216
-  pub passed : w .passed ≤ 16777216
+  pub looks : w .looked ≤ mostLooked
+  pub passed : w .passed ≤ mostLooked
 
 -- what the code leaves meets the outcome that a rule gives from the state before, at every fuel from `least` on
 module _ (g inputs replies R S : List ℕ) (w : Walk) (r : Visited) (R′ S′ : List ℕ) where

@@ -1,3 +1,4 @@
+pub mod Bounds
 pub mod View
 pub mod Folding
 pub mod Process
@@ -10,5 +11,6 @@ pub mod Bads
 pub mod Ending
 pub mod Runs
 pub mod LastQuestion
+pub mod Clauses
 pub mod Entries
 pub mod Demand

@@ -13,13 +13,14 @@ use Rattle.rules.specs.Walk.{St, Held}
 use Rattle.tables.specs.Refusals.{refusalOf}
 use Rattle.optimize.specs.declared.walk.Walk.{Walk}
 use Rattle.optimize.specs.declared.walk.Walked.{Walked}
-use Rattle.optimize.specs.View.{countOf, tableOf, view}
+use Rattle.optimize.specs.Bounds.{countOf, mostNodes, rowsEnd}
+use Rattle.optimize.specs.View.{tableOf, view}
 use Rattle.optimize.specs.Laid.{Laid}
 
 pub record Table (g : List ℕ) : Type 0 where
   pub legal : AllLegal (tableOf g)
-  pub small : countOf g ≤ 4096
-  pub whole : 1 + 6 * countOf g ≤ length g
+  pub small : countOf g ≤ mostNodes
+  pub whole : rowsEnd (countOf g) ≤ length g
 
 -- so many entries from a place on
 abbrev pub entriesOf : List ℕ → ℕ → ℕ → List ℕ

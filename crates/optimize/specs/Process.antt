@@ -2,7 +2,7 @@
 --     choiceIs            the branch that a condition chooses
 --     askedOf, askedBy, solvedOf   the outcome of a question, of a chain of questions
 --     Form, formOf        what a node's visit does, by its kind             byForm   the rules' process by form
---     oneOf, twoOf, ..    the visits of a node's operands, then what comes after them
+--     oneOf, twoOf, ..    the visits of a node's operands, by any way to visit, then what comes after them
 -- Assumes nothing.
 use Prim.Native.Nat.{ℕ, _<_}
 use mathlib.Core.Bool.{Bool, true, false, cond}
@@ -19,7 +19,9 @@ use Rattle.optimize.specs.declared.fold.Folded.{Folded}
 use Rattle.optimize.specs.declared.smt_solver.Asked.{Asked}
 use Rattle.optimize.specs.declared.form.Form.{Form}
 use Rattle.optimize.specs.declared.form.Choice.{Choice}
-use Rattle.optimize.specs.View.{countOf, wordOf, nodeOf, tableOf, view, foldIs}
+use Rattle.optimize.specs.Bounds.{countOf}
+use Rattle.rules.specs.Sections.{wordOf}
+use Rattle.optimize.specs.View.{nodeOf, tableOf, view, foldIs}
 use Rattle.optimize.specs.Counters.{walkIn, refusedIn, refusalIn}
 use Rattle.optimize.specs.Folding.{foldTwo, foldOne, asksBit}
 
@@ -121,46 +123,48 @@ module _ (g : List ℕ) (ways : Ways) where
   abbrev pub constOut : St → ℕ → Out (St × ℕ)
   constOut σ k = settle (tableOf g) ways k σ (foldConst (countOf g) (wordOf g k 1) (wordOf g k 2))
 
-  module _ (f : ℕ) where
-    abbrev pub visitOf : St → ℕ → Out (St × ℕ)
-    visitOf σ k = visit (tableOf g) ways f σ k
+  -- the recursive visits, at a fuel
+  abbrev pub visitOf : ℕ → St → ℕ → Out (St × ℕ)
+  visitOf f σ k = visit (tableOf g) ways f σ k
 
+  -- what a visit does with a fresh node, over any way to visit its operands
+  module _ (vis : St → ℕ → Out (St × ℕ)) where
     abbrev pub processOf : St → ℕ → Out (St × ℕ)
-    processOf σ k = process (tableOf g) ways (visit (tableOf g) ways f) (kindOf (wordOf g k 0)) σ k (nodeOf g k)
+    processOf σ k = process (tableOf g) ways vis (kindOf (wordOf g k 0)) σ k (nodeOf g k)
 
     abbrev pub oneOf : Kind → St → ℕ → Out (St × ℕ)
     oneOf K σ k = do
-      (σ₁, x) ← visitOf σ (wordOf g k 2)
+      (σ₁, x) ← vis σ (wordOf g k 2)
       afterOne K (setRow σ₁ k (with (nodeOf g k) x (wordOf g k 3) (wordOf g k 4))) k x
 
     abbrev pub twoOf : Kind → St → ℕ → Out (St × ℕ)
     twoOf K σ k = do
-      (σ₁, x) ← visitOf σ (wordOf g k 2)
-      (σ₂, y) ← visitOf σ₁ (wordOf g k 3)
+      (σ₁, x) ← vis σ (wordOf g k 2)
+      (σ₂, y) ← vis σ₁ (wordOf g k 3)
       afterTwo K (setRow σ₂ k (with (nodeOf g k) x y (wordOf g k 4))) k x y
 
     abbrev pub threeOf : St → ℕ → Out (St × ℕ)
     threeOf σ k = do
-      (σ₁, x) ← visitOf σ (wordOf g k 2)
-      (σ₂, y) ← visitOf σ₁ (wordOf g k 3)
-      (σ₃, z) ← visitOf σ₂ (wordOf g k 4)
+      (σ₁, x) ← vis σ (wordOf g k 2)
+      (σ₂, y) ← vis σ₁ (wordOf g k 3)
+      (σ₃, z) ← vis σ₂ (wordOf g k 4)
       settle (tableOf g) ways k (setRow σ₃ k (with (nodeOf g k) x y z)) stays
 
     -- the chosen branch of an Ite, whose condition became x, replaces it
     abbrev pub leftOf : ℕ → St → ℕ → Out (St × ℕ)
     leftOf x σ k = do
-      (σ₁, y) ← visitOf σ (wordOf g k 3)
+      (σ₁, y) ← vis σ (wordOf g k 3)
       settle (tableOf g) ways k (setRow σ₁ k (with (nodeOf g k) x y (wordOf g k 4))) (swap y)
 
     abbrev pub rightOf : ℕ → St → ℕ → Out (St × ℕ)
     rightOf x σ k = do
-      (σ₁, z) ← visitOf σ (wordOf g k 4)
+      (σ₁, z) ← vis σ (wordOf g k 4)
       settle (tableOf g) ways k (setRow σ₁ k (with (nodeOf g k) x (wordOf g k 3) z)) (swap z)
 
     abbrev pub bothOf : ℕ → St → ℕ → Out (St × ℕ)
     bothOf x σ k = do
-      (σ₁, y) ← visitOf σ (wordOf g k 3)
-      (σ₂, z) ← visitOf σ₁ (wordOf g k 4)
+      (σ₁, y) ← vis σ (wordOf g k 3)
+      (σ₂, z) ← vis σ₁ (wordOf g k 4)
       afterIte (setRow σ₂ k (with (nodeOf g k) x y z)) k x y z
 
     unfoldable pub chosenOf : Branch → ℕ → St → ℕ → Out (St × ℕ)
@@ -170,18 +174,18 @@ module _ (g : List ℕ) (ways : Ways) where
 
     abbrev pub iteOf : St → ℕ → Out (St × ℕ)
     iteOf σ k = do
-      (σ₁, x) ← visitOf σ (wordOf g k 2)
+      (σ₁, x) ← vis σ (wordOf g k 2)
       chosenOf (branch (constOf (σ₁ .rows) x)) x σ₁ k
 
     -- a Next's first word is never rewritten
     abbrev pub valueOf : St → ℕ → Out (St × ℕ)
     valueOf σ k = do
-      (σ₁, y) ← visitOf σ (wordOf g k 3)
+      (σ₁, y) ← vis σ (wordOf g k 3)
       settle (tableOf g) ways k (setRow σ₁ k (with (nodeOf g k) (wordOf g k 2) y (wordOf g k 4))) stays
 
     abbrev pub stepOf : St → ℕ → Out (St × ℕ)
     stepOf σ k = do
-      (σ₁, state) ← visitOf σ (wordOf g k 2)
+      (σ₁, state) ← vis σ (wordOf g k 2)
       valueOf σ₁ k
 
     unfoldable pub byForm : Form → Kind → St → ℕ → Out (St × ℕ)

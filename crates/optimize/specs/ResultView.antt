@@ -12,7 +12,9 @@ use Rattle.rules.specs.Model.{Model}
 use Rattle.rules.specs.Walk.{Held}
 use Rattle.rules.specs.Whole.{Folded}
 use Rattle.rules.specs.Result.{listed}
-use Rattle.optimize.specs.View.{countOf, wordOf, Coded, view}
+use Rattle.optimize.specs.Bounds.{countOf, mostNodes, roomOf, rowsEnd}
+use Rattle.rules.specs.Sections.{wordOf}
+use Rattle.optimize.specs.View.{Coded, view}
 use Rattle.optimize.specs.Lists.{entriesOf}
 use Rattle.optimize.specs.declared.walk.Walk.{Walk}
 use Rattle.optimize.specs.declared.result.Kept.{Kept}
@@ -27,10 +29,10 @@ KindsKnown g = (v : ℕ) → v < countOf g → Coded (wordOf g v 0)
 pub record Ready (g : List ℕ) (r s : ℕ) : Type 0 where
   pub known : KindsKnown g
   pub counted : 0 < length g
-  pub few : countOf g ≤ 4096
-  pub whole : 1 + 6 * countOf g ≤ length g
-  pub room : 22 * countOf g + 22 ≤ r
-  pub scratch : 22 * countOf g + 22 ≤ s
+  pub few : countOf g ≤ mostNodes
+  pub whole : rowsEnd (countOf g) ≤ length g
+  pub room : roomOf (countOf g) ≤ r
+  pub scratch : roomOf (countOf g) ≤ s
 
 abbrev pub untouched : Walk
 untouched = record { made = 0; taken = 0; used = 0; asked = 0; looked = 0; passed = 0 }
@@ -43,7 +45,7 @@ listsAt n b = 2 * n + 4 * (3 * n + b + 1)
 -- room, counters and kinds as the walk leaves them, for the inputs given
 pub record Finished (g inputs R S : List ℕ) (w : Walk) (k : Kept) (z : Sizes) : Type 0 where
   pub counted : 0 < length g
-  pub few : countOf g ≤ 4096
+  pub few : countOf g ≤ mostNodes
   pub room : need (countOf g) (z .sequentials) (z .initial + z .later) (length inputs) ≤ length R
   pub scratch : need (countOf g) (z .sequentials) (z .initial + z .later) (length inputs) ≤ length S
   pub made : w .made ≤ countOf g

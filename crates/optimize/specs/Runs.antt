@@ -10,14 +10,15 @@ use lib.ListN.{length, getD, take}
 use lib.Dec.{eqb}
 use Rattle.btor.specs.Operators.{rust}
 use Rattle.rules.specs.Refusal.{Out, refused, done}
-use Rattle.rules.specs.Limits.{need}
+use Rattle.rules.specs.Limits.{need, house}
 use Rattle.rules.specs.Model.{Model, Mode}
 use Rattle.rules.specs.Legal.{WellFormed}
 use Rattle.rules.specs.Whole.{Folded, fold}
 use Rattle.rules.specs.Result.{resultWords}
 use Rattle.tables.specs.Refusals.{refusalOf}
 use Rattle.optimize.specs.declared.walk.Optimized.{Optimized}
-use Rattle.optimize.specs.View.{countOf, tableOf}
+use Rattle.optimize.specs.Bounds.{countOf, mostNodes, rowsEnd}
+use Rattle.optimize.specs.View.{tableOf}
 use Rattle.optimize.specs.ResultView.{KindsKnown, listsAt, Handed}
 use Rattle.optimize.specs.declared.walk.Walk.{Walk}
 use Rattle.optimize.specs.Laid.{Laid}
@@ -42,11 +43,11 @@ modeIn minimise terminate oneQuery = record { terminate = terminate; oneQuery = 
 pub record Runnable (g dumps ss initial later ins reps : List ℕ) (r s : ℕ) : Type 0 where
   pub legal : WellFormed (modelIn g dumps ss initial later ins reps)
   pub known : KindsKnown g
-  pub small : countOf g ≤ 4096
-  pub whole : 1 + 6 * countOf g ≤ length g
-  pub bads : length initial + length later ≤ 2048
-  pub sequentials : length ss ≤ 1024
-  pub inputs : length ins ≤ 4096
+  pub small : countOf g ≤ mostNodes
+  pub whole : rowsEnd (countOf g) ≤ length g
+  pub bads : length initial + length later ≤ 2 * house .entries
+  pub sequentials : length ss ≤ house .entries
+  pub inputs : length ins ≤ house .inputs
   pub room : need (countOf g) (length ss) (length initial + length later) (length ins) ≤ r
   pub scratch : need (countOf g) (length ss) (length initial + length later) (length ins) ≤ s
 

@@ -1,7 +1,7 @@
 -- How the state of the walk lies in the two lent buffers and in the counters handed on.
 --     tableOf    the nodes of the given words          rowsOf, markOf, questionOf    what result and scratch hold
 --     view       the rules' state                      outcomeOf                     the rules' outcome of a visit
--- Result: the count of nodes, six words for each, the count of constants, two words for each (the two shared ones first).
+-- Result: the count of nodes, the words of each, the count of constants, two words for each (the two shared ones first).
 -- Scratch: a mark for each node, a replacement for each, four words for each question, and after them the kept lists.
 -- Assumes nothing.
 use Prim.Native.Nat.{ℕ, zero, suc, _+_, _-_, _*_}
@@ -13,12 +13,14 @@ use lib.ListN.{length, getD, drop}
 use lib.Dec.{ltb, eqb}
 use Rattle.btor.specs.Operators.{rust}
 use Rattle.rules.specs.Refusal.{Out, refused, done}
+use Rattle.rules.specs.Sections.{wordOf}
 use Rattle.rules.specs.Table.{Node, kindOf, kindCode, constant, unknown}
 use Rattle.rules.specs.Walk.{St, Mark, fresh, kept, replaced, Question, Held}
 use Rattle.rules.specs.Fold.{Fold, stays, swap, make}
 use Rattle.rules.specs.Questions.{question}
 use Rattle.rules.specs.Visit.{Ways}
 use Rattle.tables.specs.Refusals.{refusalOf}
+use Rattle.optimize.specs.Bounds.{countOf, constantsAt}
 use Rattle.optimize.specs.declared.fold.Constant.{Constant}
 use Rattle.optimize.specs.declared.fold.Folded.{Folded}
 use Rattle.optimize.specs.declared.walk.Walk.{Walk}
@@ -35,13 +37,6 @@ foldIs (Folded.Swap r) = swap r
 foldIs (Folded.Make s x) = make s x
 
 -- ---- the given words
-abbrev pub countOf : List ℕ → ℕ
-countOf g = getD g 0 0
-
--- word k of node v, from 0
-abbrev pub wordOf : List ℕ → ℕ → ℕ → ℕ
-wordOf g v k = getD g (1 + 6 * v + k) 0
-
 abbrev pub nodeOf : List ℕ → ℕ → Node
 nodeOf g v = record { kind = kindOf (wordOf g v 0); sort = wordOf g v 1; a = wordOf g v 2; b = wordOf g v 3; c = wordOf g v 4; name = wordOf g v 5 }
 
@@ -81,7 +76,7 @@ rowsOf n made R k =
     elim (ltb k n) [
       | true ↦ rowOf R k
       | false ↦ elim (ltb (k - n) (2 + made)) [
-        | true ↦ constant (getD R (2 + 6 * n + 2 * (k - n)) 0) (getD R (2 + 6 * n + 2 * (k - n) + 1) 0)
+        | true ↦ constant (getD R (constantsAt n + 2 * (k - n)) 0) (getD R (constantsAt n + 2 * (k - n) + 1) 0)
         | false ↦ unknown
       ]
     ]

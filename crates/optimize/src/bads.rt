@@ -12,19 +12,17 @@ use crate::visit::visit_entry;
 use crate::walk::Visited;
 use crate::walk::Walk;
 use tables::refusal::Refusal;
-ghost use Prim.Native.Nat.{ℕ, _+_, _*_, _<_, _≤_};
+ghost use Prim.Native.Nat.{_+_, _<_, _≤_};
 ghost use mathlib.Core.Path.{_≡_};
-ghost use mathlib.Core.Bool.{Bool};
-ghost use mathlib.Core.List.{List};
 ghost use lib.ListN.{length, take, drop};
 ghost use Rattle.rules.specs.Lists.{All};
 ghost use Rattle.rules.specs.Legal.{BadEntry};
-ghost use Rattle.rules.specs.Walk.{Held};
 ghost use Rattle.rules.specs.Fold.{isConst};
-ghost use Rattle.rules.specs.Visit.{Ways};
-ghost use Rattle.optimize.specs.View.{countOf, tableOf, waysIn, constantIs, view};
-ghost use Rattle.optimize.specs.CallWords.{inputsIn, repliesIn, minimiseIn, waysBy, LaidBy};
-ghost use Rattle.optimize.specs.Bads.{Spare, retainedOf, judgedOf, replyRule, badRule, retainRule, listRule, Retains, KeptIf, BadsLeft};
+ghost use Rattle.optimize.specs.Bounds.{countOf, Counted, HasAsks, HasRoom};
+ghost use Rattle.optimize.specs.View.{tableOf, constantIs};
+ghost use Rattle.optimize.specs.CallWords.{LaidBy};
+ghost use Rattle.optimize.specs.Bads.{Spare, KeptIf};
+ghost use Rattle.optimize.specs.Clauses.{JudgesBad, JudgesBads, LeavesBads, RepliesBy, RetainsBad, RetainsIn};
 
 // How a list of bads is judged: whether the solver is asked, whether a reachable bad is refused, and the list's section.
 pub(crate) struct Judging {
@@ -56,7 +54,7 @@ fn is_const(value: Constant, x: u64) -> bool
 
 // Unsatisfiable drops a bad; satisfiable keeps it, or refuses under terminate.
 fn by_reply(how: Judging, place: usize, walk: Walk, reply: u64) -> Retained
-    ensures { λ r. ⌜ ((h : List Held) (g inputs replies R S : List ℕ) (ways : Ways) → retainedOf h g inputs replies r R S ≡ replyRule g ways how place (view h g inputs replies R S walk) reply) ⌝ }
+    ensures { λ r. ⌜ RepliesBy how place walk reply r ⌝ }
 {
     if reply == 1 {
         return Retained::Done(walk, false);
@@ -81,10 +79,10 @@ fn judge_bad(
     walk: Walk,
     condition: usize,
 ) -> Retained
-    requires { ⌜ (0 < length (now given)) × (countOf (now given) ≤ 4096) ⌝ }
-    requires { ⌜ (22 * countOf (now given) + 22 ≤ length (now result)) × (walk .made ≤ countOf (now given)) ⌝ }
-    requires { ⌜ 2 * countOf (now given) + 4 * (walk .asked + 1) ≤ length (now scratch) ⌝ }
-    ensures { λ r. ⌜ ((h : List Held) (inputs dumps : List ℕ) (minimise : Bool) → retainedOf h (now (given .entry)) inputs (now (replies .entry)) r (now (result .entry)) (now (scratch .exit)) ≡ badRule (now (given .entry)) (waysIn dumps minimise (now (replies .entry))) how place (view h (now (given .entry)) inputs (now (replies .entry)) (now (result .entry)) (now (scratch .entry)) walk) condition) ⌝ }
+    requires { ⌜ Counted (now given) ⌝ }
+    requires { ⌜ HasRoom (now given) (now result) × (walk .made ≤ countOf (now given)) ⌝ }
+    requires { ⌜ HasAsks (now given) (now scratch) (walk .asked) 1 ⌝ }
+    ensures { λ r. ⌜ JudgesBad given replies result scratch how place walk condition r ⌝ }
 {
     let value = get_constant(given, result, walk.made, condition);
     if is_const(value, 0) {
@@ -120,7 +118,7 @@ fn should_retain_bad_state(
 ) -> Retained
     requires { ⌜ LaidBy (now given) (now dumps) (now call) (now result) (now scratch) walk ⌝ }
     requires { ⌜ (bad < countOf (now given)) × Spare (now given) (now scratch) walk 1 ⌝ }
-    ensures { λ r. ⌜ Retains (now (given .entry)) (inputsIn (now (given .entry)) (now (call .entry))) (repliesIn (now (given .entry)) (now (call .entry))) (now (result .entry)) (now (scratch .entry)) walk r (now (result .exit)) (now (scratch .exit)) (retainRule (now (given .entry)) (waysBy (now (given .entry)) (now (dumps .entry)) (now (call .entry))) how place bad) ⌝ }
+    ensures { λ r. ⌜ RetainsBad given dumps call result scratch how place walk r bad ⌝ }
 {
     let visited = visit_entry(given, result, scratch, dumps, call, walk, bad);
     match visited {
@@ -156,7 +154,7 @@ fn retain_in(
 ) -> Retained
     requires { ⌜ LaidBy (now given) (now dumps) (now call) (now result) (take at (now scratch)) walk ⌝ }
     requires { ⌜ (at ≤ length (now scratch)) × (bad < countOf (now given)) × Spare (now given) (take at (now scratch)) walk 1 ⌝ }
-    ensures { λ r. ⌜ Retains (now (given .entry)) (inputsIn (now (given .entry)) (now (call .entry))) (repliesIn (now (given .entry)) (now (call .entry))) (now (result .entry)) (take at (now (scratch .entry))) walk r (now (result .exit)) (take at (now (scratch .exit))) (retainRule (now (given .entry)) (waysBy (now (given .entry)) (now (dumps .entry)) (now (call .entry))) how place bad) ⌝ }
+    ensures { λ r. ⌜ RetainsIn given dumps call result scratch at how place walk r bad ⌝ }
     ensures { λ _. ⌜ drop at (now (scratch .exit)) ≡ drop at (now (scratch .entry)) ⌝ }
 {
     should_retain_bad_state(
@@ -200,8 +198,8 @@ pub(crate) fn judge_bads(
     requires { ⌜ LaidBy (now given) (now dumps) (now call) (now result) (take at (now scratch)) walk ⌝ }
     requires { ⌜ All (BadEntry (tableOf (now given))) (now bads) × Spare (now given) (take at (now scratch)) walk (length (now bads)) ⌝ }
     requires { ⌜ (at ≤ list) × (list + length (now bads) ≤ length (now scratch)) ⌝ }
-    ensures { λ r. ⌜ ((h : List Held) → (h′ : List Held) × (dropped : List ℕ) × (judgedOf h′ dropped (now (given .entry)) (inputsIn (now (given .entry)) (now (call .entry))) (repliesIn (now (given .entry)) (now (call .entry))) r (now (result .exit)) (now (scratch .exit)) at list ≡ listRule (now (given .entry)) (waysBy (now (given .entry)) (now (dumps .entry)) (now (call .entry))) how 0 (view h (now (given .entry)) (inputsIn (now (given .entry)) (now (call .entry))) (repliesIn (now (given .entry)) (now (call .entry))) (now (result .entry)) (take at (now (scratch .entry))) walk) (now (bads .entry)))) ⌝ }
-    ensures { λ r. ⌜ BadsLeft (now (given .entry)) (now (dumps .entry)) (inputsIn (now (given .entry)) (now (call .entry))) (repliesIn (now (given .entry)) (now (call .entry))) (minimiseIn (now (call .entry))) (length (now (bads .entry))) (now (scratch .entry)) walk r (now (result .exit)) (now (scratch .exit)) at list ⌝ }
+    ensures { λ r. ⌜ JudgesBads given dumps call result scratch bads at list how walk r ⌝ }
+    ensures { λ r. ⌜ LeavesBads given dumps call result scratch bads at list walk r ⌝ }
 {
     let mut walk = walk;
     let mut kept = 0;

@@ -2,17 +2,16 @@
 use crate::result::set_up;
 use crate::sequentials::judge_sequentials;
 use crate::walk::Walk;
-ghost use Prim.Native.Nat.{ℕ, _+_, _*_, _≤_};
+ghost use Prim.Native.Nat.{_+_, _*_, _≤_};
 ghost use mathlib.Core.Path.{_≡_};
-ghost use mathlib.Core.List.{List, []};
 ghost use lib.ListN.{length};
 ghost use Rattle.rules.specs.Lists.{All};
 ghost use Rattle.rules.specs.Legal.{Sequential};
-ghost use Rattle.rules.specs.Walk.{start};
-ghost use Rattle.rules.specs.Whole.{judgeSequentials};
-ghost use Rattle.optimize.specs.View.{countOf, tableOf, view};
+ghost use Rattle.optimize.specs.Bounds.{countOf};
+ghost use Rattle.optimize.specs.View.{tableOf};
 ghost use Rattle.optimize.specs.ResultView.{Ready, untouched};
-ghost use Rattle.optimize.specs.Lists.{Table, entriesOf};
+ghost use Rattle.optimize.specs.Lists.{Table};
+ghost use Rattle.optimize.specs.Clauses.{Begins};
 
 // Nothing made, taken, asked or looked at yet.
 pub(crate) fn untouched() -> Walk
@@ -39,7 +38,7 @@ pub(crate) fn begin(
     requires { ⌜ Ready (now given) (length (now result)) (length (now scratch)) ⌝ }
     requires { ⌜ Table (now given) × All (Sequential (tableOf (now given))) (now sequentials) ⌝ }
     requires { ⌜ (2 * countOf (now given) ≤ at) × (at + length (now sequentials) ≤ length (now scratch)) ⌝ }
-    ensures { λ r. ⌜ ((inputs replies : List ℕ) → judgeSequentials (tableOf (now (given .entry))) (start (tableOf (now (given .entry))) inputs replies) (now (sequentials .entry)) ≡ (view [] (now (given .entry)) inputs replies (now (result .exit)) (now (scratch .exit)) untouched, entriesOf (now (scratch .exit)) at r)) ⌝ }
+    ensures { λ r. ⌜ Begins given sequentials result scratch at r ⌝ }
     ensures { λ r. ⌜ r ≤ length (now (sequentials .entry)) ⌝ }
 {
     set_up(given, result, scratch);

@@ -3,17 +3,20 @@ use crate::counters::made_one;
 use crate::fold::Constant;
 use tables::node::CodedKind;
 use tables::node::NodeKind;
-ghost use Prim.Native.Nat.{ℕ, _+_, _*_, _<_, _≤_};
+ghost use Prim.Native.Nat.{_+_, _*_, _<_, _≤_};
 ghost use mathlib.Core.Path.{_≡_};
-ghost use mathlib.Core.List.{List};
 ghost use lib.ListN.{length, getD, drop};
-ghost use Rattle.rules.specs.Table.{kindOf, with};
-ghost use Rattle.rules.specs.Walk.{Held, setRow, setMark, addConst};
+ghost use Rattle.rules.specs.Table.{kindOf, rowWidth};
 ghost use Rattle.rules.specs.Fold.{constOf};
 ghost use Rattle.tables.specs.NodeAnswers.{kindIs};
-ghost use Rattle.optimize.specs.View.{constantIs, countOf, wordOf, nodeOf, RowKept, rowsOf, markBy, view};
+ghost use Rattle.optimize.specs.Bounds.{countOf, Counted, HasRoom, mostNodes, rowsEnd};
+ghost use Rattle.rules.specs.Sections.{wordOf};
+ghost use Rattle.optimize.specs.View.{constantIs, RowKept, rowsOf};
 ghost use Rattle.optimize.specs.Counters.{walkIn, withWalk, oneMade};
-ghost use Rattle.optimize.specs.declared.walk.Walk.{Walk};
+ghost use Rattle.optimize.specs.Clauses.{Pushes, PutsMark, PutsRow};
+
+// The words of a row.
+pub(crate) const ROW: usize = 6;
 
 pub(crate) fn number(x: u64) -> usize
     ensures { λ r. ⌜ r ≡ x ⌝ }
@@ -37,15 +40,15 @@ pub(crate) fn node_count(given: &[u64]) -> usize
 
 // Word `k` of a node, from 0.
 pub(crate) fn word(table: &[u64], node: usize, k: usize) -> u64
-    requires { ⌜ 1 + 6 * node + k < length (now table) ⌝ }
+    requires { ⌜ 1 + rowWidth * node + k < length (now table) ⌝ }
     ensures { λ r. ⌜ r ≡ wordOf (now (table .entry)) node k ⌝ }
 {
-    table[1 + 6 * node + k]
+    table[1 + ROW * node + k]
 }
 
 // Word `k` of a node as the number of a node.
 pub(crate) fn operand(table: &[u64], node: usize, k: usize) -> usize
-    requires { ⌜ 1 + 6 * node + k < length (now table) ⌝ }
+    requires { ⌜ 1 + rowWidth * node + k < length (now table) ⌝ }
     ensures { λ r. ⌜ r ≡ wordOf (now (table .entry)) node k ⌝ }
 {
     number(word(table, node, k))
@@ -53,7 +56,7 @@ pub(crate) fn operand(table: &[u64], node: usize, k: usize) -> usize
 
 // A node's kind; a code that names none reads as Input.
 pub(crate) fn kind_at(given: &[u64], node: usize) -> NodeKind
-    requires { ⌜ 1 + 6 * node < length (now given) ⌝ }
+    requires { ⌜ 1 + rowWidth * node < length (now given) ⌝ }
     ensures { λ r. ⌜ kindIs r ≡ kindOf (wordOf (now (given .entry)) node 0) ⌝ }
 {
     match NodeKind::from_code(word(given, node, 0)) {
@@ -64,8 +67,8 @@ pub(crate) fn kind_at(given: &[u64], node: usize) -> NodeKind
 
 // The number of the constant that stands at `at`, if one does.
 pub(crate) fn get_constant(given: &[u64], result: &[u64], made: usize, at: usize) -> Constant
-    requires { ⌜ (0 < length (now given)) × (countOf (now given) ≤ 4096) ⌝ }
-    requires { ⌜ 22 * countOf (now given) + 22 ≤ length (now result) ⌝ }
+    requires { ⌜ Counted (now given) ⌝ }
+    requires { ⌜ HasRoom (now given) (now result) ⌝ }
     requires { ⌜ made ≤ countOf (now given) ⌝ }
     ensures { λ r. ⌜ constantIs r ≡ constOf (rowsOf (countOf (now (given .entry))) made (now (result .entry))) at ⌝ }
 {
@@ -78,7 +81,7 @@ pub(crate) fn get_constant(given: &[u64], result: &[u64], made: usize, at: usize
     }
     let j = at - n;
     if j < 2 + made {
-        return Constant::Imm(result[2 + 6 * n + 2 * j + 1]);
+        return Constant::Imm(result[2 + ROW * n + 2 * j + 1]);
     }
     Constant::None
 }
@@ -91,14 +94,14 @@ pub(crate) fn push(
     sort: u64,
     value: u64,
 )
-    requires { ⌜ (0 < length (now given)) × (countOf (now given) ≤ 4096) ⌝ }
-    requires { ⌜ 22 * countOf (now given) + 22 ≤ length (now result) ⌝ }
+    requires { ⌜ Counted (now given) ⌝ }
+    requires { ⌜ HasRoom (now given) (now result) ⌝ }
     requires { ⌜ getD (now counters) 0 0 < countOf (now given) ⌝ }
-    ensures { λ _. ⌜ ((h : List Held) (inputs replies S : List ℕ) → view h (now (given .entry)) inputs replies (now (result .exit)) S (walkIn (now (counters .exit))) ≡ addConst (view h (now (given .entry)) inputs replies (now (result .entry)) S (walkIn (now (counters .entry)))) (countOf (now (given .entry)) + 2 + getD (now (counters .entry)) 0 0) sort value) ⌝ }
+    ensures { λ _. ⌜ Pushes given result counters sort value ⌝ }
     ensures { λ _. ⌜ now (counters .exit) ≡ withWalk (oneMade (walkIn (now (counters .entry)))) (now (counters .entry)) ⌝ }
 {
     let n = node_count(given);
-    let at = 2 + 6 * n + 2 * (2 + counters[0]);
+    let at = 2 + ROW * n + 2 * (2 + counters[0]);
     result[at] = sort;
     result[at + 1] = value;
     made_one(counters);
@@ -106,12 +109,12 @@ pub(crate) fn push(
 
 // A node's row, with the operands that it is left with; its kind, sort and name stand there as they were given.
 pub(crate) fn put_row(given: &[u64], result: &mut [u64], node: usize, a: usize, b: usize, c: usize)
-    requires { ⌜ (node < countOf (now given)) × (countOf (now given) ≤ 4096) ⌝ }
-    requires { ⌜ 1 + 6 * countOf (now given) ≤ length (now result) ⌝ }
+    requires { ⌜ (node < countOf (now given)) × (countOf (now given) ≤ mostNodes) ⌝ }
+    requires { ⌜ rowsEnd (countOf (now given)) ≤ length (now result) ⌝ }
     requires { ⌜ RowKept (now given) (now result) node ⌝ }
-    ensures { λ _. ⌜ ((h : List Held) (inputs replies S : List ℕ) (w : Walk) → view h (now (given .entry)) inputs replies (now (result .exit)) S w ≡ setRow (view h (now (given .entry)) inputs replies (now (result .entry)) S w) node (with (nodeOf (now (given .entry)) node) a b c)) ⌝ }
+    ensures { λ _. ⌜ PutsRow given result node a b c ⌝ }
 {
-    let at = 1 + 6 * node;
+    let at = 1 + ROW * node;
     result[at + 2] = wide(a);
     result[at + 3] = wide(b);
     result[at + 4] = wide(c);
@@ -121,7 +124,7 @@ pub(crate) fn put_row(given: &[u64], result: &mut [u64], node: usize, a: usize, 
 pub(crate) fn put_mark(given: &[u64], scratch: &mut [u64], node: usize, mark: u64, by: usize)
     requires { ⌜ (0 < length (now given)) × (node < countOf (now given)) ⌝ }
     requires { ⌜ 2 * countOf (now given) ≤ length (now scratch) ⌝ }
-    ensures { λ _. ⌜ ((h : List Held) (inputs replies R : List ℕ) (w : Walk) → view h (now (given .entry)) inputs replies R (now (scratch .exit)) w ≡ setMark (view h (now (given .entry)) inputs replies R (now (scratch .entry)) w) node (markBy mark by)) ⌝ }
+    ensures { λ _. ⌜ PutsMark given scratch node mark by ⌝ }
     ensures { λ _. ⌜ drop (2 * countOf (now (given .entry))) (now (scratch .exit)) ≡ drop (2 * countOf (now (given .entry))) (now (scratch .entry)) ⌝ }
 {
     let n = node_count(given);

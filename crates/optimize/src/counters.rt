@@ -9,6 +9,7 @@ ghost use Prim.Native.Nat.{_<_, _≤_};
 ghost use mathlib.Core.Path.{_≡_};
 ghost use lib.ListN.{getD};
 ghost use Rattle.tables.specs.Refusals.{refusalOf};
+ghost use Rattle.optimize.specs.Bounds.{mostLooked, mostNodes};
 ghost use Rattle.optimize.specs.Counters.{walkIn, refusedIn, withWalk, oneMade, oneTaken, oneAsked, tallied, withRefusal, refusalBy, refusalIn, answerIn};
 
 pub(crate) fn walk_in(counters: &[usize; 9]) -> Walk
@@ -43,7 +44,7 @@ pub(crate) fn put_walk(walk: Walk, counters: &mut [usize; 9])
 
 // One more constant is made.
 pub(crate) fn made_one(counters: &mut [usize; 9])
-    requires { ⌜ getD (now counters) 0 0 < 4096 ⌝ }
+    requires { ⌜ getD (now counters) 0 0 < mostNodes ⌝ }
     ensures { λ _. ⌜ now (counters .exit) ≡ withWalk (oneMade (walkIn (now (counters .entry)))) (now (counters .entry)) ⌝ }
 {
     *counters = [
@@ -97,8 +98,8 @@ pub(crate) fn asked_one(counters: &mut [usize; 9], used: usize)
 
 // The counts of a search are added.
 pub(crate) fn tally(counters: &mut [usize; 9], looked: usize, passed: usize)
-    requires { ⌜ (getD (now counters) 4 0 ≤ 16777216) × (getD (now counters) 5 0 ≤ 16777216) ⌝ }
-    requires { ⌜ (looked ≤ 4096) × (passed ≤ 4096) ⌝ }
+    requires { ⌜ (getD (now counters) 4 0 ≤ mostLooked) × (getD (now counters) 5 0 ≤ mostLooked) ⌝ }
+    requires { ⌜ (looked ≤ mostNodes) × (passed ≤ mostNodes) ⌝ }
     ensures { λ _. ⌜ now (counters .exit) ≡ withWalk (tallied (walkIn (now (counters .entry))) looked passed) (now (counters .entry)) ⌝ }
 {
     *counters = [

@@ -5,17 +5,16 @@ use crate::result::Kept;
 use crate::result::Sizes;
 use crate::result::write_result;
 use crate::walk::Walk;
-ghost use Prim.Native.Nat.{ℕ, _≤_};
+ghost use Prim.Native.Nat.{_≤_, ℕ};
 ghost use mathlib.Core.Path.{_≡_};
-ghost use mathlib.Core.List.{List, flatten};
+ghost use mathlib.Core.List.{List};
 ghost use lib.ListN.{length, drop};
-ghost use Rattle.rules.specs.Model.{Model};
 ghost use Rattle.rules.specs.Walk.{Held};
-ghost use Rattle.rules.specs.Result.{resultWords};
 ghost use Rattle.optimize.specs.View.{view};
-ghost use Rattle.optimize.specs.ResultView.{foldedIn, ModelOf, Handed};
 ghost use Rattle.optimize.specs.Ending.{Ended};
 ghost use Rattle.optimize.specs.CallWords.{inputsIn, repliesIn};
+ghost use Rattle.rules.specs.Lent.{was};
+ghost use Rattle.optimize.specs.Clauses.{HandsOver};
 
 // The smaller of a count and the length of a list: the same entries of the list are left.
 fn at_most(count: usize, most: usize) -> usize
@@ -30,7 +29,7 @@ fn at_most(count: usize, most: usize) -> usize
 
 // The counters with no more taken and used than there are inputs and replies.
 fn counted(walk: Walk, inputs: &[u64], replies: &[u64]) -> Walk
-    ensures { λ r. ⌜ ((h : List Held) (g R S : List ℕ) → view h g (now (inputs .entry)) (now (replies .entry)) R S r ≡ view h g (now (inputs .entry)) (now (replies .entry)) R S walk) ⌝ }
+    ensures { λ r. ⌜ ((h : List Held) (g R S : List ℕ) → view h g (was inputs) (was replies) R S r ≡ view h g (was inputs) (was replies) R S walk) ⌝ }
     ensures { λ r. ⌜ (r .taken ≤ length (now (inputs .entry))) × (r .used ≤ length (now (replies .entry))) ⌝ }
     ensures { λ r. ⌜ (r .made ≡ walk .made) × (r .asked ≡ walk .asked) ⌝ }
 {
@@ -59,7 +58,7 @@ fn write_run(
     verdict: u64,
 ) -> usize
     requires { ⌜ Ended (now given) (now inputs) (now result) (now scratch) walk kept sizes ⌝ }
-    ensures { λ r. ⌜ ((h : List Held) (d : List ℕ) (m : Model) → ModelOf (now (given .entry)) (now (inputs .entry)) (now (replies .entry)) m → Handed (flatten (resultWords m (foldedIn h d (now (given .entry)) (now (inputs .entry)) (now (replies .entry)) (now (result .entry)) (now (scratch .entry)) walk kept sizes verdict))) (length (now (result .entry))) (now (result .exit)) r) ⌝ }
+    ensures { λ r. ⌜ HandsOver given result scratch walk kept sizes verdict r (was inputs) (was replies) ⌝ }
 {
     let sure = counted(walk, inputs, replies);
     write_result(given, inputs, result, scratch, sure, kept, sizes, verdict)
@@ -77,7 +76,7 @@ pub(crate) fn write_call(
     verdict: u64,
 ) -> usize
     requires { ⌜ Ended (now given) (inputsIn (now given) (now call)) (now result) (now scratch) walk kept sizes ⌝ }
-    ensures { λ r. ⌜ ((h : List Held) (d : List ℕ) (m : Model) → ModelOf (now (given .entry)) (inputsIn (now (given .entry)) (now (call .entry))) (repliesIn (now (given .entry)) (now (call .entry))) m → Handed (flatten (resultWords m (foldedIn h d (now (given .entry)) (inputsIn (now (given .entry)) (now (call .entry))) (repliesIn (now (given .entry)) (now (call .entry))) (now (result .entry)) (now (scratch .entry)) walk kept sizes verdict))) (length (now (result .entry))) (now (result .exit)) r) ⌝ }
+    ensures { λ r. ⌜ HandsOver given result scratch walk kept sizes verdict r (inputsIn (was given) (was call)) (repliesIn (was given) (was call)) ⌝ }
 {
     write_run(
         given,

@@ -9,6 +9,7 @@ ghost use Rattle.btor.specs.Operators.{Op, Reading, compute, complement, less};
 ghost use Rattle.btor.specs.Sorts.{width, ones};
 ghost use Rattle.rules.specs.Fold.{shared, isConst, foldConst, foldWords, foldTest, foldEq, foldNot, foldExt, foldAnd, foldOr};
 ghost use Rattle.tables.specs.NodeAnswers.{kindIs};
+ghost use Rattle.optimize.specs.Bounds.{mostNodes};
 ghost use Rattle.optimize.specs.View.{constantIs, foldIs};
 ghost use Rattle.optimize.specs.Folding.{opIs, foldTwo, foldOne, asksBit};
 
@@ -76,7 +77,7 @@ fn complement_in(sort: u64, value: u64) -> u64
 
 // The shared false or true, behind the n nodes of the table.
 fn shared_constant(n: usize, truth: bool) -> Folded
-    requires { ⌜ n ≤ 4096 ⌝ }
+    requires { ⌜ n ≤ mostNodes ⌝ }
     ensures { λ r. ⌜ foldIs r ≡ shared n truth ⌝ }
 {
     if truth {
@@ -106,7 +107,7 @@ fn is_const_ones(value: Constant, sort: u64) -> bool
 
 // A constant of one bit becomes the shared one.
 pub(crate) fn fold_const(n: usize, sort: u64, value: u64) -> Folded
-    requires { ⌜ n ≤ 4096 ⌝ }
+    requires { ⌜ n ≤ mostNodes ⌝ }
     ensures { λ r. ⌜ foldIs r ≡ foldConst n sort value ⌝ }
 {
     if sort == NodeType::BIT {
@@ -182,7 +183,7 @@ fn fold_srl(sort: u64, left: Constant, right: Constant) -> Folded
 }
 
 fn fold_ult(n: usize, left: Constant, right: Constant) -> Folded
-    requires { ⌜ n ≤ 4096 ⌝ }
+    requires { ⌜ n ≤ mostNodes ⌝ }
     ensures { λ r. ⌜ foldIs r ≡ foldTest n less (constantIs left) (constantIs right) ⌝ }
 {
     let Constant::Imm(left_imm) = left else {
@@ -196,7 +197,7 @@ fn fold_ult(n: usize, left: Constant, right: Constant) -> Folded
 
 // A node x equals itself; else two constants are compared.
 fn fold_eq(n: usize, x: usize, y: usize, left: Constant, right: Constant) -> Folded
-    requires { ⌜ n ≤ 4096 ⌝ }
+    requires { ⌜ n ≤ mostNodes ⌝ }
     ensures { λ r. ⌜ foldIs r ≡ foldEq n x y (constantIs left) (constantIs right) ⌝ }
 {
     if x == y {
@@ -271,7 +272,7 @@ fn fold_or(sort: u64, x: usize, y: usize, left: Constant, right: Constant) -> Fo
 
 // A bit becomes the shared one; another constant keeps the Not's sort.
 fn fold_not(n: usize, sort: u64, value: Constant) -> Folded
-    requires { ⌜ n ≤ 4096 ⌝ }
+    requires { ⌜ n ≤ mostNodes ⌝ }
     ensures { λ r. ⌜ foldIs r ≡ foldNot n sort (constantIs value) ⌝ }
 {
     let Constant::Imm(imm) = value else {
@@ -307,7 +308,7 @@ pub(crate) fn fold_two(
     left: Constant,
     right: Constant,
 ) -> Folded
-    requires { ⌜ n ≤ 4096 ⌝ }
+    requires { ⌜ n ≤ mostNodes ⌝ }
     ensures { λ r. ⌜ foldIs r ≡ foldTwo (kindIs kind) n sort x y (constantIs left) (constantIs right) ⌝ }
 {
     match kind {
@@ -338,7 +339,7 @@ pub(crate) fn fold_two(
 
 // What a node of one operand folds to, among n nodes; value is the operand's number.
 pub(crate) fn fold_one(kind: NodeKind, n: usize, sort: u64, value: Constant) -> Folded
-    requires { ⌜ n ≤ 4096 ⌝ }
+    requires { ⌜ n ≤ mostNodes ⌝ }
     ensures { λ r. ⌜ foldIs r ≡ foldOne (kindIs kind) n sort (constantIs value) ⌝ }
 {
     match kind {

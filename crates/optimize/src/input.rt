@@ -8,17 +8,12 @@ use crate::settle::settle;
 use btor::node_type::NodeType;
 use tables::node::fits_sort;
 use tables::refusal::Refusal;
-ghost use Prim.Native.Nat.{ℕ};
 ghost use mathlib.Core.Path.{_≡_};
-ghost use mathlib.Core.Bool.{Bool};
-ghost use mathlib.Core.List.{List};
 ghost use lib.ListN.{getD};
 ghost use lib.Dec.{eqb};
-ghost use Rattle.rules.specs.Walk.{Held};
-ghost use Rattle.optimize.specs.View.{view, waysIn, Meets};
-ghost use Rattle.optimize.specs.Process.{takeOf};
 ghost use Rattle.optimize.specs.Laid.{Room};
-ghost use Rattle.optimize.specs.Counters.{walkIn, Going, answerIn};
+ghost use Rattle.optimize.specs.Counters.{walkIn, Going};
+ghost use Rattle.optimize.specs.Clauses.{Takes};
 
 // Whether a name starts with "memory-dump".
 fn is_dump(dumps: &[u8], name: usize) -> bool
@@ -43,7 +38,7 @@ pub(crate) fn take_input(
 ) -> usize
     requires { ⌜ Room (now given) (now result) (now scratch) (walkIn (now counters)) node ⌝ }
     requires { ⌜ Going (now counters) ⌝ }
-    ensures { λ r. ⌜ ((h : List Held) (replies : List ℕ) (minimise : Bool) → Meets (now (given .entry)) (now (inputs .entry)) replies (answerIn r (now (counters .exit))) (now (result .exit)) (now (scratch .exit)) (takeOf (now (given .entry)) (waysIn (now (dumps .entry)) minimise replies) (view h (now (given .entry)) (now (inputs .entry)) replies (now (result .entry)) (now (scratch .entry)) (walkIn (now (counters .entry)))) node)) ⌝ }
+    ensures { λ r. ⌜ Takes given result scratch counters r inputs dumps node ⌝ }
 {
     let taken = counters[1];
     if inputs.len() <= taken {

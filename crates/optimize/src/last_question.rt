@@ -5,19 +5,18 @@ use crate::smt_solver::Asked;
 use crate::smt_solver::ask_at;
 use crate::walk::Walk;
 use tables::refusal::Refusal;
-ghost use Prim.Native.Nat.{ℕ, _+_, _*_, _<_, _≤_};
+ghost use Prim.Native.Nat.{_+_, _*_, _≤_, ℕ};
 ghost use mathlib.Core.Path.{_≡_};
 ghost use mathlib.Core.List.{List, []};
-ghost use lib.ListN.{length, take, drop};
+ghost use lib.ListN.{length, drop};
 ghost use Rattle.rules.specs.Walk.{Held};
-ghost use Rattle.rules.specs.Model.{Model, Mode};
 ghost use Rattle.rules.specs.Questions.{ask};
-ghost use Rattle.rules.specs.Whole.{lastQuestion};
-ghost use Rattle.optimize.specs.View.{countOf, view};
+ghost use Rattle.optimize.specs.Bounds.{countOf, Counted};
 ghost use Rattle.optimize.specs.Process.{askedOf};
-ghost use Rattle.optimize.specs.Lists.{entriesOf};
 ghost use Rattle.optimize.specs.CallWords.{repliesIn};
-ghost use Rattle.optimize.specs.LastQuestion.{answeredOf, verdictThen, forgotten};
+ghost use Rattle.optimize.specs.LastQuestion.{answeredOf, verdictThen};
+ghost use Rattle.optimize.specs.Clauses.{AnswersLast, AsksIn};
+ghost use Rattle.rules.specs.Lent.{was};
 
 // The walk and the verdict: 1 found, 2 not found, 3 folding removed all.
 pub(crate) enum Answered {
@@ -51,9 +50,9 @@ fn ask_in(
     kind: u64,
     first: usize,
 ) -> Asked
-    requires { ⌜ (0 < length (now given)) × (countOf (now given) ≤ 4096) ⌝ }
+    requires { ⌜ Counted (now given) ⌝ }
     requires { ⌜ (at ≤ length (now scratch)) × (2 * countOf (now given) + 4 * (walk .asked + 1) ≤ at) ⌝ }
-    ensures { λ r. ⌜ ((h : List Held) (inputs R : List ℕ) → askedOf h (now (given .entry)) inputs (now (replies .entry)) r R (take at (now (scratch .exit))) ≡ ask (length (now (replies .entry))) (view h (now (given .entry)) inputs (now (replies .entry)) R (take at (now (scratch .entry))) walk) kind first 0 []) ⌝ }
+    ensures { λ r. ⌜ AsksIn given replies scratch at walk r (λ count σ. ask count σ kind first 0 []) ⌝ }
     ensures { λ _. ⌜ drop at (now (scratch .exit)) ≡ drop at (now (scratch .entry)) ⌝ }
 {
     ask_at(given, replies, &mut scratch[0..at], walk, kind, first, 0)
@@ -69,9 +68,9 @@ fn last_question(
     kept: usize,
     walk: Walk,
 ) -> Answered
-    requires { ⌜ (0 < length (now given)) × (countOf (now given) ≤ 4096) ⌝ }
+    requires { ⌜ Counted (now given) ⌝ }
     requires { ⌜ (at ≤ list) × (list + kept ≤ length (now scratch)) × (2 * countOf (now given) + 4 * (walk .asked + 1) ≤ at) ⌝ }
-    ensures { λ r. ⌜ ((h : List Held) (inputs R : List ℕ) (m : Model) (how : Mode) → length (m .replies) ≡ length (now (replies .entry)) → answeredOf h (now (given .entry)) inputs (now (replies .entry)) r R (take at (now (scratch .exit))) ≡ forgotten (lastQuestion m how (view h (now (given .entry)) inputs (now (replies .entry)) R (take at (now (scratch .entry))) walk) (entriesOf (now (scratch .entry)) list kept))) ⌝ }
+    ensures { λ r. ⌜ AnswersLast given (was replies) scratch at list kept walk r ⌝ }
     ensures { λ _. ⌜ drop at (now (scratch .exit)) ≡ drop at (now (scratch .entry)) ⌝ }
 {
     if kept == 0 {
@@ -96,9 +95,9 @@ pub(crate) fn put_last_question(
     kept: usize,
     walk: Walk,
 ) -> Answered
-    requires { ⌜ (0 < length (now given)) × (countOf (now given) ≤ 4096) ⌝ }
+    requires { ⌜ Counted (now given) ⌝ }
     requires { ⌜ (at ≤ list) × (list + kept ≤ length (now scratch)) × (2 * countOf (now given) + 4 * (walk .asked + 1) ≤ at) ⌝ }
-    ensures { λ r. ⌜ ((h : List Held) (inputs R : List ℕ) (m : Model) (how : Mode) → length (m .replies) ≡ length (repliesIn (now (given .entry)) (now (call .entry))) → answeredOf h (now (given .entry)) inputs (repliesIn (now (given .entry)) (now (call .entry))) r R (take at (now (scratch .exit))) ≡ forgotten (lastQuestion m how (view h (now (given .entry)) inputs (repliesIn (now (given .entry)) (now (call .entry))) R (take at (now (scratch .entry))) walk) (entriesOf (now (scratch .entry)) list kept))) ⌝ }
+    ensures { λ r. ⌜ AnswersLast given (repliesIn (was given) (was call)) scratch at list kept walk r ⌝ }
     ensures { λ _. ⌜ drop at (now (scratch .exit)) ≡ drop at (now (scratch .entry)) ⌝ }
 {
     last_question(

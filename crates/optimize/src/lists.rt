@@ -8,11 +8,10 @@ ghost use Prim.Native.Nat.{_+_, _<_, _≤_};
 ghost use mathlib.Core.Path.{_≡_};
 ghost use lib.ListN.{length, take, drop, set};
 ghost use Rattle.rules.specs.Lists.{All};
-ghost use Rattle.rules.specs.Whole.{visitAll};
-ghost use Rattle.optimize.specs.View.{countOf, tableOf};
-ghost use Rattle.optimize.specs.Process.{visitOf};
-ghost use Rattle.optimize.specs.CallWords.{inputsIn, repliesIn, minimiseIn, waysBy, LaidBy, VisitsBy};
-ghost use Rattle.optimize.specs.Lists.{entriesOf, WalksTo, LaidAfter};
+ghost use Rattle.optimize.specs.Bounds.{countOf};
+ghost use Rattle.optimize.specs.CallWords.{LaidBy};
+ghost use Rattle.optimize.specs.Lists.{entriesOf};
+ghost use Rattle.optimize.specs.Clauses.{StaysLaid, WalksAll, WalksIn};
 
 // An entry of a list.
 pub(crate) fn put_entry(list: &mut [u64], at: usize, entry: u64)
@@ -35,7 +34,7 @@ pub(crate) fn visit_in(
 ) -> Visited
     requires { ⌜ (at ≤ length (now scratch)) × (node < countOf (now given)) ⌝ }
     requires { ⌜ LaidBy (now given) (now dumps) (now call) (now result) (take at (now scratch)) walk ⌝ }
-    ensures { λ r. ⌜ VisitsBy (now (given .entry)) (now (call .entry)) (now (result .entry)) (take at (now (scratch .entry))) walk r (now (result .exit)) (take at (now (scratch .exit))) (node + 1) (λ f σ. visitOf (now (given .entry)) (waysBy (now (given .entry)) (now (dumps .entry)) (now (call .entry))) f σ node) ⌝ }
+    ensures { λ r. ⌜ WalksIn given dumps call result scratch at walk r node ⌝ }
     ensures { λ r. ⌜ drop at (now (scratch .exit)) ≡ drop at (now (scratch .entry)) ⌝ }
 {
     visit_entry(given, result, &mut scratch[0..at], dumps, call, walk, node)
@@ -55,8 +54,8 @@ pub(crate) fn visit_all(
     requires { ⌜ at + count ≤ length (now scratch) ⌝ }
     requires { ⌜ LaidBy (now given) (now dumps) (now call) (now result) (take at (now scratch)) walk ⌝ }
     requires { ⌜ All (λ k. k < countOf (now given)) (entriesOf (now scratch) at count) ⌝ }
-    ensures { λ r. ⌜ WalksTo (now (given .entry)) (inputsIn (now (given .entry)) (now (call .entry))) (repliesIn (now (given .entry)) (now (call .entry))) (now (result .entry)) (take at (now (scratch .entry))) walk r (now (result .exit)) (take at (now (scratch .exit))) (λ σ. visitAll (tableOf (now (given .entry))) (waysBy (now (given .entry)) (now (dumps .entry)) (now (call .entry))) σ (entriesOf (now (scratch .entry)) at count)) ⌝ }
-    ensures { λ r. ⌜ LaidAfter (now (given .entry)) (now (dumps .entry)) (inputsIn (now (given .entry)) (now (call .entry))) (repliesIn (now (given .entry)) (now (call .entry))) (minimiseIn (now (call .entry))) r (now (result .exit)) (take at (now (scratch .exit))) ⌝ }
+    ensures { λ r. ⌜ WalksAll given dumps call result scratch at count walk r ⌝ }
+    ensures { λ r. ⌜ StaysLaid given dumps call result scratch at r ⌝ }
     ensures { λ r. ⌜ drop at (now (scratch .exit)) ≡ drop at (now (scratch .entry)) ⌝ }
 {
     let mut walk = walk;

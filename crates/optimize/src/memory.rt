@@ -4,11 +4,11 @@ use crate::buffers::number;
 use crate::buffers::word;
 use crate::fold::Constant;
 ghost use mathlib.Core.Path.{_≡_};
-ghost use Prim.Native.Nat.{_+_, _*_, _<_, _≤_};
-ghost use lib.ListN.{length};
+ghost use Prim.Native.Nat.{_≤_};
 ghost use Rattle.btor.specs.Operators.{Reading};
 ghost use Rattle.rules.specs.Memory.{find};
-ghost use Rattle.optimize.specs.View.{countOf, rowsOf};
+ghost use Rattle.optimize.specs.Bounds.{countOf, Counted, HasRoom};
+ghost use Rattle.optimize.specs.View.{rowsOf};
 ghost use Rattle.optimize.specs.Folding.{searchIs, Falls, LooksAt};
 
 // The value of the first Write that holds the address.
@@ -34,8 +34,8 @@ pub(crate) enum Look {
 
 // Looks at one place of the chain. A Write whose address is no constant is unsettled.
 fn look_at(given: &[u64], result: &[u64], made: usize, at: usize, address: u64) -> Look
-    requires { ⌜ (0 < length (now given)) × (countOf (now given) ≤ 4096) ⌝ }
-    requires { ⌜ 22 * countOf (now given) + 22 ≤ length (now result) ⌝ }
+    requires { ⌜ Counted (now given) ⌝ }
+    requires { ⌜ HasRoom (now given) (now result) ⌝ }
     requires { ⌜ made ≤ countOf (now given) ⌝ }
     requires { ⌜ Falls (countOf (now given)) made (now result) ⌝ }
     ensures { λ r. ⌜ LooksAt (countOf (now (given .entry))) made (now (result .entry)) at address r ⌝ }
@@ -66,8 +66,8 @@ pub(crate) fn find_in_memory(
     memory: usize,
     address: u64,
 ) -> Search
-    requires { ⌜ (0 < length (now given)) × (countOf (now given) ≤ 4096) ⌝ }
-    requires { ⌜ 22 * countOf (now given) + 22 ≤ length (now result) ⌝ }
+    requires { ⌜ Counted (now given) ⌝ }
+    requires { ⌜ HasRoom (now given) (now result) ⌝ }
     requires { ⌜ made ≤ countOf (now given) ⌝ }
     requires { ⌜ Falls (countOf (now given)) made (now result) ⌝ }
     ensures { λ r. ⌜ searchIs r ≡ find Reading.rust (countOf (now (given .entry))) (rowsOf (countOf (now (given .entry))) made (now (result .entry))) address memory ⌝ }

@@ -16,7 +16,7 @@ ghost use Rattle.rules.specs.Call.{left, optimizeModelImpl, optimizeModelWithSo
 ghost use Rattle.tables.specs.SectionAnswers.{Inside};
 ghost use Rattle.tables.specs.Judging.{callWith};
 ghost use Rattle.optimize.specs.Runs.{Runs};
-ghost use Rattle.optimize.specs.Entries.{entryIs, answered, inputsEnd, repliesEnd, resultLeft, InOrder, RunnableParts, modelParts};
+ghost use Rattle.optimize.specs.Entries.{entryIs, answered, inputsEnd, repliesEnd, resultLeft, InOrder, RunnableParts, modelParts, callLent};
 
 // Which of the three functions is called.
 pub(crate) enum Entry {
@@ -133,9 +133,9 @@ fn fold_judged(
     scratch: &mut [u64],
 ) -> Optimized
     requires { ⌜ InOrder (callWith mode (now words) (now names) (length (now result)) (length (now scratch))) sections ⌝ }
-    ensures { λ r. ⌜ answered r ≡ left house (entryIs entry) (callWith mode (now (words .entry)) (now (names .entry)) (length (now (result .entry))) (length (now (scratch .entry)))) .answer ⌝ }
-    ensures { λ _. ⌜ now (result .exit) ≡ left house (entryIs entry) (callWith mode (now (words .entry)) (now (names .entry)) (length (now (result .entry))) (length (now (scratch .entry)))) .result ⌝ }
-    ensures { λ _. ⌜ now (scratch .exit) ≡ left house (entryIs entry) (callWith mode (now (words .entry)) (now (names .entry)) (length (now (result .entry))) (length (now (scratch .entry)))) .scratch ⌝ }
+    ensures { λ r. ⌜ answered r ≡ left house (entryIs entry) (callLent mode words names result scratch) .answer ⌝ }
+    ensures { λ _. ⌜ now (result .exit) ≡ left house (entryIs entry) (callLent mode words names result scratch) .result ⌝ }
+    ensures { λ _. ⌜ now (scratch .exit) ≡ left house (entryIs entry) (callLent mode words names result scratch) .scratch ⌝ }
 {
     let mut dumps = [0u8; 4097];
     mark_memory_dumps(names, &mut dumps);
@@ -163,9 +163,9 @@ fn optimize(
     result: &mut [u64],
     scratch: &mut [u64],
 ) -> Optimized
-    ensures { λ r. ⌜ answered r ≡ left house (entryIs entry) (callWith mode (now (words .entry)) (now (names .entry)) (length (now (result .entry))) (length (now (scratch .entry)))) .answer ⌝ }
-    ensures { λ _. ⌜ now (result .exit) ≡ left house (entryIs entry) (callWith mode (now (words .entry)) (now (names .entry)) (length (now (result .entry))) (length (now (scratch .entry)))) .result ⌝ }
-    ensures { λ _. ⌜ now (scratch .exit) ≡ left house (entryIs entry) (callWith mode (now (words .entry)) (now (names .entry)) (length (now (result .entry))) (length (now (scratch .entry)))) .scratch ⌝ }
+    ensures { λ r. ⌜ answered r ≡ left house (entryIs entry) (callLent mode words names result scratch) .answer ⌝ }
+    ensures { λ _. ⌜ now (result .exit) ≡ left house (entryIs entry) (callLent mode words names result scratch) .result ⌝ }
+    ensures { λ _. ⌜ now (scratch .exit) ≡ left house (entryIs entry) (callLent mode words names result scratch) .scratch ⌝ }
 {
     match judge(mode, words, names, result.len(), scratch.len()) {
         Verdict::Accepted(sections, _) => {

@@ -1,18 +1,22 @@
 // The two lent buffers before and after the walk: setting up, writing the result's sections, clearing.
+use crate::buffers::ROW;
 use crate::walk::Walk;
 use btor::node_type::NodeType;
 ghost use mathlib.Core.Path.{_≡_};
-ghost use mathlib.Core.List.{List, [], _∷_, _++_, flatten};
-ghost use Prim.Native.Nat.{ℕ, _+_, _-_, _*_, _<_, _≤_};
+ghost use mathlib.Core.List.{[], _∷_, _++_};
+ghost use Prim.Native.Nat.{_+_, _-_, _*_, _<_, _≤_};
 ghost use lib.ListN.{length, take, drop, replicate};
 ghost use lib.Seq.{paste};
 ghost use Rattle.rules.specs.Lists.{sum};
-ghost use Rattle.rules.specs.Model.{Model};
-ghost use Rattle.rules.specs.Walk.{Held, start};
-ghost use Rattle.rules.specs.Result.{isReplaced, markWords, gather, listed, resultWords};
-ghost use Rattle.optimize.specs.View.{tableOf, markOf, view};
+ghost use Rattle.rules.specs.Walk.{start};
+ghost use Rattle.rules.specs.Result.{isReplaced, markWords, gather, listed};
+ghost use Rattle.rules.specs.Table.{rowWidth};
+ghost use Rattle.optimize.specs.Bounds.{constantsAt, mostNodes, roomOf};
+ghost use Rattle.optimize.specs.View.{markOf};
 ghost use Rattle.optimize.specs.Lists.{entriesOf};
-ghost use Rattle.optimize.specs.ResultView.{Ready, untouched, Finished, foldedIn, ModelOf, Wrote, KeptIn, keptWords, restWords, Handed};
+ghost use Rattle.optimize.specs.ResultView.{Ready, Finished, KeptIn, keptWords, restWords};
+ghost use Rattle.rules.specs.Lent.{was};
+ghost use Rattle.optimize.specs.Clauses.{SetsUp, Writes, WritesResult};
 
 // How many entries of the three lists are kept; they stand in scratch.
 pub(crate) struct Kept {
@@ -61,11 +65,11 @@ pub(crate) fn copy_words(source: &[u64], start: usize, count: usize, target: &mu
 // The given count and rows, and the shared false and true after them; no node is visited yet.
 pub(crate) fn set_up(given: &[u64], result: &mut [u64], scratch: &mut [u64])
     requires { ⌜ Ready (now given) (length (now result)) (length (now scratch)) ⌝ }
-    ensures { λ _. ⌜ ((inputs replies : List ℕ) → view [] (now (given .entry)) inputs replies (now (result .exit)) (now (scratch .exit)) untouched ≡ start (tableOf (now (given .entry))) inputs replies) ⌝ }
+    ensures { λ _. ⌜ SetsUp given result scratch ⌝ }
 {
     let n = given[0] as usize;
-    copy_words(given, 0, 1 + 6 * n, result, 0);
-    let at = 2 + 6 * n;
+    copy_words(given, 0, 1 + ROW * n, result, 0);
+    let at = 2 + ROW * n;
     result[at] = NodeType::BIT;
     result[at + 1] = 0;
     result[at + 2] = NodeType::BIT;
@@ -83,7 +87,7 @@ fn write_section(
     at: usize,
 ) -> usize
     requires { ⌜ (start + words ≤ length (now source)) × (at + 1 + words ≤ length (now result)) ⌝ }
-    ensures { λ r. ⌜ Wrote (now (result .entry)) (now (result .exit)) at r (count ∷ entriesOf (now (source .entry)) start words) ⌝ }
+    ensures { λ r. ⌜ Writes result at r (count ∷ entriesOf (now (source .entry)) start words) ⌝ }
     ensures { λ r. ⌜ r ≡ at + 1 + words ⌝ }
 {
     result[at] = count;
@@ -110,7 +114,7 @@ fn count_replaced(scratch: &[u64], n: usize) -> usize
 // Puts a node and its replacement at a place, if it has one.
 fn write_pair(scratch: &[u64], n: usize, node: usize, result: &mut [u64], at: usize) -> usize
     requires { ⌜ (node < n) × (n + n ≤ length (now scratch)) × (at + 2 ≤ length (now result)) ⌝ }
-    ensures { λ r. ⌜ Wrote (now (result .entry)) (now (result .exit)) at r (markWords node (markOf n (now (scratch .entry)) node)) ⌝ }
+    ensures { λ r. ⌜ Writes result at r (markWords node (markOf n (now (scratch .entry)) node)) ⌝ }
     ensures { λ r. ⌜ r ≤ at + 2 ⌝ }
 {
     if scratch[node] < 2 {
@@ -124,7 +128,7 @@ fn write_pair(scratch: &[u64], n: usize, node: usize, result: &mut [u64], at: us
 // Puts each replaced node and its replacement, by rising node, from a place on.
 fn write_pairs(scratch: &[u64], n: usize, result: &mut [u64], at: usize) -> usize
     requires { ⌜ (n + n ≤ length (now scratch)) × (at + 2 * n ≤ length (now result)) ⌝ }
-    ensures { λ r. ⌜ Wrote (now (result .entry)) (now (result .exit)) at r (gather n 0 (λ k. markWords k (markOf n (now (scratch .entry)) k))) ⌝ }
+    ensures { λ r. ⌜ Writes result at r (gather n 0 (λ k. markWords k (markOf n (now (scratch .entry)) k))) ⌝ }
     ensures { λ r. ⌜ r ≤ at + 2 * n ⌝ }
 {
     let mut place = at;
@@ -139,7 +143,7 @@ fn write_pairs(scratch: &[u64], n: usize, result: &mut [u64], at: usize) -> usiz
 // Puts the tally of five at a place, after its count.
 fn write_tally(walk: Walk, verdict: u64, result: &mut [u64], at: usize) -> usize
     requires { ⌜ at + 6 ≤ length (now result) ⌝ }
-    ensures { λ r. ⌜ Wrote (now (result .entry)) (now (result .exit)) at r (listed (walk .taken ∷ walk .used ∷ walk .looked ∷ walk .passed ∷ verdict ∷ [])) ⌝ }
+    ensures { λ r. ⌜ Writes result at r (listed (walk .taken ∷ walk .used ∷ walk .looked ∷ walk .passed ∷ verdict ∷ [])) ⌝ }
     ensures { λ r. ⌜ r ≡ at + 6 ⌝ }
 {
     result[at] = 5;
@@ -153,19 +157,19 @@ fn write_tally(walk: Walk, verdict: u64, result: &mut [u64], at: usize) -> usize
 
 // Puts the counts before the rows and before the constants, which stand in place. Answers the place after the constants.
 fn write_counts(n: usize, made: usize, result: &mut [u64]) -> usize
-    requires { ⌜ (made ≤ n) × (n ≤ 4096) × (22 * n + 22 ≤ length (now result)) ⌝ }
-    ensures { λ r. ⌜ Wrote (now (result .entry)) (now (result .exit)) 0 r ((n ∷ entriesOf (now (result .entry)) 1 (6 * n)) ++ ((2 + made) ∷ entriesOf (now (result .entry)) (2 + 6 * n) (2 * (2 + made)))) ⌝ }
-    ensures { λ r. ⌜ r ≡ 2 + 6 * n + 2 * (2 + made) ⌝ }
+    requires { ⌜ (made ≤ n) × (n ≤ mostNodes) × (roomOf n ≤ length (now result)) ⌝ }
+    ensures { λ r. ⌜ Writes result 0 r ((n ∷ entriesOf (was result) 1 (rowWidth * n)) ++ ((2 + made) ∷ entriesOf (was result) (constantsAt n) (2 * (2 + made)))) ⌝ }
+    ensures { λ r. ⌜ r ≡ constantsAt n + 2 * (2 + made) ⌝ }
 {
     result[0] = n as u64;
-    result[1 + 6 * n] = (2 + made) as u64;
-    2 + 6 * n + 2 * (2 + made)
+    result[1 + ROW * n] = (2 + made) as u64;
+    2 + ROW * n + 2 * (2 + made)
 }
 
 // Puts the replacements at a place, after their count.
 fn write_replacements(scratch: &[u64], n: usize, result: &mut [u64], at: usize) -> usize
     requires { ⌜ (n + n ≤ length (now scratch)) × (at + 1 + 2 * n ≤ length (now result)) ⌝ }
-    ensures { λ r. ⌜ Wrote (now (result .entry)) (now (result .exit)) at r (sum n (λ k. isReplaced (markOf n (now (scratch .entry)) k)) ∷ gather n 0 (λ k. markWords k (markOf n (now (scratch .entry)) k))) ⌝ }
+    ensures { λ r. ⌜ Writes result at r (sum n (λ k. isReplaced (markOf n (was scratch) k)) ∷ gather n 0 (λ k. markWords k (markOf n (was scratch) k))) ⌝ }
     ensures { λ r. ⌜ r ≤ at + 1 + 2 * n ⌝ }
 {
     let count = count_replaced(scratch, n);
@@ -184,7 +188,7 @@ fn write_lists(
 ) -> usize
     requires { ⌜ KeptIn (now scratch) start kept sizes ⌝ }
     requires { ⌜ at + 3 + (sizes .sequentials + sizes .initial + sizes .later) ≤ length (now result) ⌝ }
-    ensures { λ r. ⌜ Wrote (now (result .entry)) (now (result .exit)) at r (keptWords (now (scratch .entry)) start kept sizes) ⌝ }
+    ensures { λ r. ⌜ Writes result at r (keptWords (now (scratch .entry)) start kept sizes) ⌝ }
     ensures { λ r. ⌜ r ≤ at + 3 + (sizes .sequentials + sizes .initial + sizes .later) ⌝ }
 {
     let sequentials = kept.sequentials;
@@ -209,7 +213,7 @@ fn write_rest(
 ) -> usize
     requires { ⌜ (walk .taken ≤ length (now inputs)) × (n + n + 4 * walk .asked ≤ length (now scratch)) ⌝ }
     requires { ⌜ at + 1 + length (now inputs) + 1 + 4 * walk .asked + 6 ≤ length (now result) ⌝ }
-    ensures { λ r. ⌜ Wrote (now (result .entry)) (now (result .exit)) at r (restWords (now (inputs .entry)) (now (scratch .entry)) n walk verdict) ⌝ }
+    ensures { λ r. ⌜ Writes result at r (restWords (now (inputs .entry)) (now (scratch .entry)) n walk verdict) ⌝ }
 {
     let taken = walk.taken;
     let left = inputs.len() - taken;
@@ -231,7 +235,7 @@ pub(crate) fn write_result(
     verdict: u64,
 ) -> usize
     requires { ⌜ Finished (now given) (now inputs) (now result) (now scratch) walk kept sizes ⌝ }
-    ensures { λ r. ⌜ ((h : List Held) (d replies : List ℕ) (m : Model) → ModelOf (now (given .entry)) (now (inputs .entry)) replies m → walk .used ≤ length replies → Handed (flatten (resultWords m (foldedIn h d (now (given .entry)) (now (inputs .entry)) replies (now (result .entry)) (now (scratch .entry)) walk kept sizes verdict))) (length (now (result .entry))) (now (result .exit)) r) ⌝ }
+    ensures { λ r. ⌜ WritesResult given result scratch walk kept sizes verdict r (was inputs) ⌝ }
 {
     let n = given[0] as usize;
     let made = walk.made;

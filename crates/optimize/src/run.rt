@@ -15,18 +15,14 @@ use crate::result::copy_words;
 use crate::walk::Optimized;
 use crate::walk::Walk;
 use crate::walk::Walked;
-ghost use Prim.Native.Nat.{_+_, _<_, _≤_};
+ghost use Prim.Native.Nat.{_<_, _≤_, _*_};
 ghost use mathlib.Core.Path.{_≡_};
 ghost use mathlib.Core.Bool.{true, false};
-ghost use mathlib.Core.List.{List};
-ghost use lib.ListN.{length, take};
-ghost use Rattle.rules.specs.Walk.{Held};
-ghost use Rattle.rules.specs.Whole.{foldBads};
-ghost use Rattle.optimize.specs.View.{countOf, view};
+ghost use lib.ListN.{length};
+ghost use Rattle.rules.specs.Limits.{house};
+ghost use Rattle.optimize.specs.Bounds.{countOf, mostNodes};
 ghost use Rattle.optimize.specs.ResultView.{listsAt};
-ghost use Rattle.optimize.specs.Lists.{entriesOf};
-ghost use Rattle.optimize.specs.CallWords.{inputsIn, repliesIn, minimiseIn};
-ghost use Rattle.optimize.specs.Runs.{modelIn, modeIn, Runnable, Underway, Ends, Runs};
+ghost use Rattle.optimize.specs.Clauses.{EndsBads, RunnableBy, RunsWhole, UnderwayBy};
 
 // Judges the initial bads, then the sequential bads, and writes the result.
 fn fold_bads(
@@ -43,8 +39,8 @@ fn fold_bads(
     kept: usize,
     walk: Walk,
 ) -> Optimized
-    requires { ⌜ Underway (now given) (now dumps) (now sequentials) (now initial) (now later) (inputsIn (now given) (now call)) (repliesIn (now given) (now call)) (minimiseIn (now call)) (now result) (now scratch) walk at kept ⌝ }
-    ensures { λ r. ⌜ ((h : List Held) → Ends (modelIn (now (given .entry)) (now (dumps .entry)) (now (sequentials .entry)) (now (initial .entry)) (now (later .entry)) (inputsIn (now (given .entry)) (now (call .entry))) (repliesIn (now (given .entry)) (now (call .entry)))) (foldBads (modelIn (now (given .entry)) (now (dumps .entry)) (now (sequentials .entry)) (now (initial .entry)) (now (later .entry)) (inputsIn (now (given .entry)) (now (call .entry))) (repliesIn (now (given .entry)) (now (call .entry)))) (modeIn (minimiseIn (now (call .entry))) terminate false) false (view h (now (given .entry)) (inputsIn (now (given .entry)) (now (call .entry))) (repliesIn (now (given .entry)) (now (call .entry))) (now (result .entry)) (take at (now (scratch .entry))) walk) (entriesOf (now (scratch .entry)) at kept)) (length (now (result .entry))) r (now (result .exit))) ⌝ }
+    requires { ⌜ UnderwayBy (now given) (now dumps) (now call) (now sequentials) (now initial) (now later) (now result) (now scratch) walk at kept ⌝ }
+    ensures { λ r. ⌜ EndsBads given dumps call sequentials initial later result scratch terminate false at kept walk r ⌝ }
 {
     let second = at + sequentials.len();
     let third = second + initial.len();
@@ -120,8 +116,8 @@ fn fold_once(
     kept: usize,
     walk: Walk,
 ) -> Optimized
-    requires { ⌜ Underway (now given) (now dumps) (now sequentials) (now initial) (now later) (inputsIn (now given) (now call)) (repliesIn (now given) (now call)) (minimiseIn (now call)) (now result) (now scratch) walk at kept ⌝ }
-    ensures { λ r. ⌜ ((h : List Held) → Ends (modelIn (now (given .entry)) (now (dumps .entry)) (now (sequentials .entry)) (now (initial .entry)) (now (later .entry)) (inputsIn (now (given .entry)) (now (call .entry))) (repliesIn (now (given .entry)) (now (call .entry)))) (foldBads (modelIn (now (given .entry)) (now (dumps .entry)) (now (sequentials .entry)) (now (initial .entry)) (now (later .entry)) (inputsIn (now (given .entry)) (now (call .entry))) (repliesIn (now (given .entry)) (now (call .entry)))) (modeIn (minimiseIn (now (call .entry))) terminate true) true (view h (now (given .entry)) (inputsIn (now (given .entry)) (now (call .entry))) (repliesIn (now (given .entry)) (now (call .entry))) (now (result .entry)) (take at (now (scratch .entry))) walk) (entriesOf (now (scratch .entry)) at kept)) (length (now (result .entry))) r (now (result .exit))) ⌝ }
+    requires { ⌜ UnderwayBy (now given) (now dumps) (now call) (now sequentials) (now initial) (now later) (now result) (now scratch) walk at kept ⌝ }
+    ensures { λ r. ⌜ EndsBads given dumps call sequentials initial later result scratch terminate true at kept walk r ⌝ }
 {
     let second = at + sequentials.len();
     let third = second + initial.len();
@@ -178,7 +174,7 @@ fn fold_once(
 
 // Where the kept lists stand in scratch: after the marks, the replacements and the questions.
 fn lists_at(given: &[u64], bads: usize) -> usize
-    requires { ⌜ (0 < length (now given)) × (countOf (now given) ≤ 4096) × (bads ≤ 2048) ⌝ }
+    requires { ⌜ (0 < length (now given)) × (countOf (now given) ≤ mostNodes) × (bads ≤ 2 * house .entries) ⌝ }
     ensures { λ r. ⌜ r ≡ listsAt (countOf (now (given .entry))) bads ⌝ }
 {
     let n = node_count(given);
@@ -198,8 +194,8 @@ pub(crate) fn run(
     dumps: &[u8; 4097],
     call: &[usize; 5],
 ) -> Optimized
-    requires { ⌜ Runnable (now given) (now dumps) (now sequentials) (now initial) (now later) (inputsIn (now given) (now call)) (repliesIn (now given) (now call)) (length (now result)) (length (now scratch)) ⌝ }
-    ensures { λ r. ⌜ Runs (modelIn (now (given .entry)) (now (dumps .entry)) (now (sequentials .entry)) (now (initial .entry)) (now (later .entry)) (inputsIn (now (given .entry)) (now (call .entry))) (repliesIn (now (given .entry)) (now (call .entry)))) (modeIn (minimiseIn (now (call .entry))) terminate «one_query») (length (now (result .entry))) r (now (result .exit)) ⌝ }
+    requires { ⌜ RunnableBy (now given) (now dumps) (now call) (now sequentials) (now initial) (now later) (length (now result)) (length (now scratch)) ⌝ }
+    ensures { λ r. ⌜ RunsWhole given dumps call sequentials initial later result scratch terminate «one_query» r ⌝ }
 {
     let at = lists_at(given, initial.len() + later.len());
     let kept = begin(given, sequentials, result, scratch, at);

@@ -6,20 +6,19 @@ use crate::buffers::wide;
 use crate::buffers::word;
 use crate::fold::Constant;
 use crate::lists::put_entry;
-ghost use Prim.Native.Nat.{ℕ, _+_, _*_, _<_, _≤_};
+ghost use Prim.Native.Nat.{_+_, _*_, _<_, _≤_};
 ghost use mathlib.Core.Path.{_≡_};
 ghost use mathlib.Core.Bool.{not};
-ghost use mathlib.Core.List.{List, _∷_};
 ghost use lib.ListN.{length};
 ghost use Rattle.rules.specs.Lists.{All};
 ghost use Rattle.rules.specs.Table.{nodeAt};
 ghost use Rattle.rules.specs.Legal.{Sequential};
-ghost use Rattle.rules.specs.Walk.{Held};
 ghost use Rattle.rules.specs.Fold.{constOf};
-ghost use Rattle.rules.specs.Whole.{trivial, judgeSequentials};
-ghost use Rattle.optimize.specs.View.{countOf, tableOf, constantIs, view};
-ghost use Rattle.optimize.specs.Lists.{Table, entriesOf, joined};
-ghost use Rattle.optimize.specs.declared.walk.Walk.{Walk};
+ghost use Rattle.rules.specs.Whole.{trivial};
+ghost use Rattle.optimize.specs.Bounds.{countOf};
+ghost use Rattle.optimize.specs.View.{tableOf, constantIs};
+ghost use Rattle.optimize.specs.Lists.{Table};
+ghost use Rattle.optimize.specs.Clauses.{JudgesNext, JudgesNexts};
 
 // The number of a constant of the table as given.
 fn given_constant(given: &[u64], node: usize) -> Constant
@@ -61,7 +60,7 @@ fn judge_sequential(
 ) -> usize
     requires { ⌜ Table (now given) × Sequential (tableOf (now given)) sequential ⌝ }
     requires { ⌜ (2 * countOf (now given) ≤ at) × (at + kept < length (now scratch)) ⌝ }
-    ensures { λ r. ⌜ ((h : List Held) (inputs replies R ss : List ℕ) (w : Walk) → 2 * countOf (now (given .entry)) + 4 * w .asked ≤ at → joined (entriesOf (now (scratch .entry)) at kept) (judgeSequentials (tableOf (now (given .entry))) (view h (now (given .entry)) inputs replies R (now (scratch .entry)) w) (sequential ∷ ss)) ≡ joined (entriesOf (now (scratch .exit)) at r) (judgeSequentials (tableOf (now (given .entry))) (view h (now (given .entry)) inputs replies R (now (scratch .exit)) w) ss)) ⌝ }
+    ensures { λ r. ⌜ JudgesNext given scratch at kept sequential r ⌝ }
     ensures { λ r. ⌜ r ≤ kept + 1 ⌝ }
 {
     if should_retain_sequential(given, sequential) {
@@ -82,7 +81,7 @@ pub(crate) fn judge_sequentials(
 ) -> usize
     requires { ⌜ Table (now given) × All (Sequential (tableOf (now given))) (now sequentials) ⌝ }
     requires { ⌜ (2 * countOf (now given) ≤ at) × (at + length (now sequentials) ≤ length (now scratch)) ⌝ }
-    ensures { λ r. ⌜ ((h : List Held) (inputs replies R : List ℕ) (w : Walk) → 2 * countOf (now (given .entry)) + 4 * w .asked ≤ at → judgeSequentials (tableOf (now (given .entry))) (view h (now (given .entry)) inputs replies R (now (scratch .entry)) w) (now (sequentials .entry)) ≡ (view h (now (given .entry)) inputs replies R (now (scratch .exit)) w, entriesOf (now (scratch .exit)) at r)) ⌝ }
+    ensures { λ r. ⌜ JudgesNexts given scratch at sequentials r ⌝ }
     ensures { λ r. ⌜ r ≤ length (now (sequentials .entry)) ⌝ }
 {
     let mut kept = 0;

@@ -23,20 +23,18 @@ use crate::solve::solve_ite_bit;
 use crate::solve::solve_ite_word;
 use btor::node_type::NodeType;
 use tables::node::NodeKind;
-ghost use Prim.Native.Nat.{ℕ, _+_, _*_, _<_, _≤_};
+ghost use Prim.Native.Nat.{_<_};
 ghost use mathlib.Core.Path.{_≡_};
-ghost use mathlib.Core.Bool.{Bool};
-ghost use mathlib.Core.List.{List};
-ghost use lib.ListN.{length, getD};
-ghost use Rattle.rules.specs.Walk.{Held};
-ghost use Rattle.rules.specs.Visit.{Ways, settle, finish, forward};
+ghost use lib.ListN.{getD};
+ghost use Rattle.rules.specs.Visit.{settle, finish};
 ghost use Rattle.tables.specs.NodeAnswers.{kindIs};
-ghost use Rattle.optimize.specs.View.{countOf, view, outcomeOf, foldIs, constantIs, tableOf, waysIn};
+ghost use Rattle.optimize.specs.Bounds.{countOf, CountedAt, HasBoth};
+ghost use Rattle.optimize.specs.View.{foldIs, tableOf};
 ghost use Rattle.optimize.specs.Folding.{Falls};
-ghost use Rattle.optimize.specs.Process.{solvedOf, settleThen, bitOf, afterOne, afterTwo, afterIte, constOut, isRead};
+ghost use Rattle.optimize.specs.Process.{bitOf, afterOne, afterTwo, afterIte, constOut, isRead};
 ghost use Rattle.optimize.specs.Laid.{Room};
-ghost use Rattle.optimize.specs.Counters.{walkIn, Going, answerIn};
-ghost use Rattle.optimize.specs.CallWords.{repliesIn, waysBy};
+ghost use Rattle.optimize.specs.Counters.{walkIn, Going};
+ghost use Rattle.optimize.specs.Clauses.{Forwards, Settles, SettlesBy, SettlesSolved};
 
 fn is_read(kind: NodeKind) -> bool
     ensures { λ r. ⌜ r ≡ isRead (kindIs kind) ⌝ }
@@ -76,11 +74,11 @@ pub(crate) fn settle(
     node: usize,
     fold: Folded,
 ) -> usize
-    requires { ⌜ (0 < length (now given)) × (countOf (now given) ≤ 4096) × (node < countOf (now given)) ⌝ }
-    requires { ⌜ (22 * countOf (now given) + 22 ≤ length (now result)) × (2 * countOf (now given) ≤ length (now scratch)) ⌝ }
+    requires { ⌜ CountedAt (now given) node ⌝ }
+    requires { ⌜ HasBoth (now given) (now result) (now scratch) ⌝ }
     requires { ⌜ getD (now counters) 0 0 < countOf (now given) ⌝ }
     requires { ⌜ Going (now counters) ⌝ }
-    ensures { λ r. ⌜ ((h : List Held) (inputs replies : List ℕ) (ways : Ways) → outcomeOf h (now (given .entry)) inputs replies (answerIn r (now (counters .exit))) (now (result .exit)) (now (scratch .exit)) ≡ settle (tableOf (now (given .entry))) ways node (view h (now (given .entry)) inputs replies (now (result .entry)) (now (scratch .entry)) (walkIn (now (counters .entry)))) (foldIs fold)) ⌝ }
+    ensures { λ r. ⌜ Settles given result scratch counters r (λ g ways σ. settle (tableOf g) ways node σ (foldIs fold)) ⌝ }
 {
     match fold {
         Folded::Stays => {
@@ -110,10 +108,10 @@ pub(crate) fn settle_solved(
     node: usize,
     solved: Folded,
 ) -> usize
-    requires { ⌜ (0 < length (now given)) × (countOf (now given) ≤ 4096) × (node < countOf (now given)) ⌝ }
-    requires { ⌜ (22 * countOf (now given) + 22 ≤ length (now result)) × (2 * countOf (now given) ≤ length (now scratch)) ⌝ }
+    requires { ⌜ CountedAt (now given) node ⌝ }
+    requires { ⌜ HasBoth (now given) (now result) (now scratch) ⌝ }
     requires { ⌜ getD (now counters) 0 0 < countOf (now given) ⌝ }
-    ensures { λ r. ⌜ ((h : List Held) (inputs replies : List ℕ) (ways : Ways) → outcomeOf h (now (given .entry)) inputs replies (answerIn r (now (counters .exit))) (now (result .exit)) (now (scratch .exit)) ≡ settleThen (now (given .entry)) ways node (solvedOf h (now (given .entry)) inputs replies solved (now (counters .entry)) (now (result .entry)) (now (scratch .entry)))) ⌝ }
+    ensures { λ r. ⌜ SettlesSolved given result scratch counters r node solved ⌝ }
 {
     if is_refused(counters) {
         return node;
@@ -134,7 +132,7 @@ fn finish(
 ) -> usize
     requires { ⌜ Room (now given) (now result) (now scratch) (walkIn (now counters)) node ⌝ }
     requires { ⌜ Going (now counters) ⌝ }
-    ensures { λ r. ⌜ ((h : List Held) (inputs dumps : List ℕ) → outcomeOf h (now (given .entry)) inputs (repliesIn (now (given .entry)) (now (call .entry))) (answerIn r (now (counters .exit))) (now (result .exit)) (now (scratch .exit)) ≡ finish (tableOf (now (given .entry))) (waysBy (now (given .entry)) dumps (now (call .entry))) node (view h (now (given .entry)) inputs (repliesIn (now (given .entry)) (now (call .entry))) (now (result .entry)) (now (scratch .entry)) (walkIn (now (counters .entry)))) (foldIs fold) (bitOf (now (given .entry)) (waysBy (now (given .entry)) dumps (now (call .entry))) node bit)) ⌝ }
+    ensures { λ r. ⌜ SettlesBy given result scratch counters r call (λ g ways σ. finish (tableOf g) ways node σ (foldIs fold) (bitOf g ways node bit)) ⌝ }
 {
     if !is_stays(fold) {
         return settle(given, result, scratch, counters, node, fold);
@@ -165,7 +163,7 @@ pub(crate) fn settle_const(
 ) -> usize
     requires { ⌜ Room (now given) (now result) (now scratch) (walkIn (now counters)) node ⌝ }
     requires { ⌜ Going (now counters) ⌝ }
-    ensures { λ r. ⌜ ((h : List Held) (inputs replies : List ℕ) (ways : Ways) → outcomeOf h (now (given .entry)) inputs replies (answerIn r (now (counters .exit))) (now (result .exit)) (now (scratch .exit)) ≡ constOut (now (given .entry)) ways (view h (now (given .entry)) inputs replies (now (result .entry)) (now (scratch .entry)) (walkIn (now (counters .entry)))) node) ⌝ }
+    ensures { λ r. ⌜ Settles given result scratch counters r (λ g ways σ. constOut g ways σ node) ⌝ }
 {
     let n = node_count(given);
     let fold = fold_const(n, word(given, node, 1), word(given, node, 2));
@@ -184,7 +182,7 @@ pub(crate) fn after_one(
 ) -> usize
     requires { ⌜ Room (now given) (now result) (now scratch) (walkIn (now counters)) node ⌝ }
     requires { ⌜ Going (now counters) ⌝ }
-    ensures { λ r. ⌜ ((h : List Held) (inputs replies : List ℕ) (ways : Ways) → outcomeOf h (now (given .entry)) inputs replies (answerIn r (now (counters .exit))) (now (result .exit)) (now (scratch .exit)) ≡ afterOne (now (given .entry)) ways (kindIs kind) (view h (now (given .entry)) inputs replies (now (result .entry)) (now (scratch .entry)) (walkIn (now (counters .entry)))) node x) ⌝ }
+    ensures { λ r. ⌜ Settles given result scratch counters r (λ g ways σ. afterOne g ways (kindIs kind) σ node x) ⌝ }
 {
     let n = node_count(given);
     let sort = word(given, node, 1);
@@ -206,7 +204,7 @@ fn read(
     requires { ⌜ Room (now given) (now result) (now scratch) (walkIn (now counters)) node ⌝ }
     requires { ⌜ Going (now counters) ⌝ }
     requires { ⌜ Falls (countOf (now given)) (getD (now counters) 0 0) (now result) ⌝ }
-    ensures { λ r. ⌜ ((h : List Held) (inputs replies dumps : List ℕ) (minimise : Bool) → outcomeOf h (now (given .entry)) inputs replies (answerIn r (now (counters .exit))) (now (result .exit)) (now (scratch .exit)) ≡ forward (tableOf (now (given .entry))) (waysIn dumps minimise replies) node (view h (now (given .entry)) inputs replies (now (result .entry)) (now (scratch .entry)) (walkIn (now (counters .entry)))) memory (constantIs address)) ⌝ }
+    ensures { λ r. ⌜ Forwards given result scratch counters r node memory address ⌝ }
 {
     let Constant::Imm(x) = address else {
         return settle(given, result, scratch, counters, node, Folded::Stays);
@@ -240,7 +238,7 @@ pub(crate) fn after_two(
     requires { ⌜ Room (now given) (now result) (now scratch) (walkIn (now counters)) node ⌝ }
     requires { ⌜ Going (now counters) ⌝ }
     requires { ⌜ Falls (countOf (now given)) (getD (now counters) 0 0) (now result) ⌝ }
-    ensures { λ r. ⌜ ((h : List Held) (inputs dumps : List ℕ) → outcomeOf h (now (given .entry)) inputs (repliesIn (now (given .entry)) (now (call .entry))) (answerIn r (now (counters .exit))) (now (result .exit)) (now (scratch .exit)) ≡ afterTwo (now (given .entry)) (waysBy (now (given .entry)) dumps (now (call .entry))) (kindIs kind) (view h (now (given .entry)) inputs (repliesIn (now (given .entry)) (now (call .entry))) (now (result .entry)) (now (scratch .entry)) (walkIn (now (counters .entry)))) node x y) ⌝ }
+    ensures { λ r. ⌜ SettlesBy given result scratch counters r call (λ g ways σ. afterTwo g ways (kindIs kind) σ node x y) ⌝ }
 {
     let right = get_constant(given, result, counters[0], y);
     if is_read(kind) {
@@ -268,7 +266,7 @@ pub(crate) fn after_ite(
 ) -> usize
     requires { ⌜ Room (now given) (now result) (now scratch) (walkIn (now counters)) node ⌝ }
     requires { ⌜ Going (now counters) ⌝ }
-    ensures { λ r. ⌜ ((h : List Held) (inputs dumps : List ℕ) → outcomeOf h (now (given .entry)) inputs (repliesIn (now (given .entry)) (now (call .entry))) (answerIn r (now (counters .exit))) (now (result .exit)) (now (scratch .exit)) ≡ afterIte (now (given .entry)) (waysBy (now (given .entry)) dumps (now (call .entry))) (view h (now (given .entry)) inputs (repliesIn (now (given .entry)) (now (call .entry))) (now (result .entry)) (now (scratch .entry)) (walkIn (now (counters .entry)))) node x y z) ⌝ }
+    ensures { λ r. ⌜ SettlesBy given result scratch counters r call (λ g ways σ. afterIte g ways σ node x y z) ⌝ }
 {
     if !minimises(call) {
         return settle(given, result, scratch, counters, node, Folded::Stays);

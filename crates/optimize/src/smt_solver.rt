@@ -10,15 +10,17 @@ use crate::counters::walk_in;
 use crate::fold::Folded;
 use crate::walk::Walk;
 use tables::refusal::Refusal;
-ghost use Prim.Native.Nat.{ℕ, _+_, _*_, _<_, _≤_};
+ghost use Prim.Native.Nat.{_<_, ℕ};
 ghost use mathlib.Core.Path.{_≡_};
 ghost use mathlib.Core.List.{List, []};
 ghost use lib.ListN.{length, getD, drop};
 ghost use Rattle.rules.specs.Walk.{Held};
 ghost use Rattle.rules.specs.Questions.{ask, askOr, askBit, quiet, firstReply, otherReplies, most};
-ghost use Rattle.optimize.specs.View.{countOf, foldIs, view};
-ghost use Rattle.optimize.specs.Counters.{walkIn, Going};
-ghost use Rattle.optimize.specs.Process.{askedOf, askedBy, solvedOf, isStays, thenAsk};
+ghost use Rattle.optimize.specs.Bounds.{Counted, HasAsks};
+ghost use Rattle.optimize.specs.View.{foldIs};
+ghost use Rattle.optimize.specs.Counters.{Going};
+ghost use Rattle.optimize.specs.Process.{askedOf, askedBy, isStays, thenAsk};
+ghost use Rattle.optimize.specs.Clauses.{Asks, AsksBy, AtMost, Solves, SolvesThen};
 
 // The reply that a question took.
 pub(crate) enum Asked {
@@ -72,11 +74,11 @@ pub(crate) fn ask(
     first: usize,
     second: usize,
 ) -> u64
-    requires { ⌜ (0 < length (now given)) × (countOf (now given) ≤ 4096) ⌝ }
-    requires { ⌜ 2 * countOf (now given) + 4 * (getD (now counters) 3 0 + 1) ≤ length (now scratch) ⌝ }
+    requires { ⌜ Counted (now given) ⌝ }
+    requires { ⌜ HasAsks (now given) (now scratch) (getD (now counters) 3 0) 1 ⌝ }
     requires { ⌜ Going (now counters) ⌝ }
-    ensures { λ r. ⌜ ((h : List Held) (inputs R : List ℕ) → askedBy h (now (given .entry)) inputs (now (replies .entry)) r (now (counters .exit)) R (now (scratch .exit)) ≡ ask (length (now (replies .entry))) (view h (now (given .entry)) inputs (now (replies .entry)) R (now (scratch .entry)) (walkIn (now (counters .entry)))) kind first second []) ⌝ }
-    ensures { λ _. ⌜ (getD (now (counters .exit)) 0 0 ≡ getD (now (counters .entry)) 0 0) × (getD (now (counters .exit)) 3 0 ≤ getD (now (counters .entry)) 3 0 + 1) ⌝ }
+    ensures { λ r. ⌜ AsksBy given replies scratch counters r (λ count σ. ask count σ kind first second []) ⌝ }
+    ensures { λ _. ⌜ AtMost counters 1 ⌝ }
 {
     let n = node_count(given);
     let used = counters[2];
@@ -105,9 +107,9 @@ pub(crate) fn ask_at(
     first: usize,
     second: usize,
 ) -> Asked
-    requires { ⌜ (0 < length (now given)) × (countOf (now given) ≤ 4096) ⌝ }
-    requires { ⌜ 2 * countOf (now given) + 4 * (walk .asked + 1) ≤ length (now scratch) ⌝ }
-    ensures { λ r. ⌜ ((h : List Held) (inputs R : List ℕ) → askedOf h (now (given .entry)) inputs (now (replies .entry)) r R (now (scratch .exit)) ≡ ask (length (now (replies .entry))) (view h (now (given .entry)) inputs (now (replies .entry)) R (now (scratch .entry)) walk) kind first second []) ⌝ }
+    requires { ⌜ Counted (now given) ⌝ }
+    requires { ⌜ HasAsks (now given) (now scratch) (walk .asked) 1 ⌝ }
+    ensures { λ r. ⌜ Asks given replies scratch walk r (λ count σ. ask count σ kind first second []) ⌝ }
 {
     let mut counters = [0usize; 9];
     put_walk(walk, &mut counters);
@@ -136,11 +138,11 @@ pub(crate) fn ask_or(
     second: usize,
     fold: Folded,
 ) -> Folded
-    requires { ⌜ (0 < length (now given)) × (countOf (now given) ≤ 4096) ⌝ }
-    requires { ⌜ 2 * countOf (now given) + 4 * (getD (now counters) 3 0 + 1) ≤ length (now scratch) ⌝ }
+    requires { ⌜ Counted (now given) ⌝ }
+    requires { ⌜ HasAsks (now given) (now scratch) (getD (now counters) 3 0) 1 ⌝ }
     requires { ⌜ Going (now counters) ⌝ }
-    ensures { λ r. ⌜ ((h : List Held) (inputs R : List ℕ) → solvedOf h (now (given .entry)) inputs (now (replies .entry)) r (now (counters .exit)) R (now (scratch .exit)) ≡ askOr (length (now (replies .entry))) kind first second (foldIs fold) quiet (view h (now (given .entry)) inputs (now (replies .entry)) R (now (scratch .entry)) (walkIn (now (counters .entry))))) ⌝ }
-    ensures { λ _. ⌜ (getD (now (counters .exit)) 0 0 ≡ getD (now (counters .entry)) 0 0) × (getD (now (counters .exit)) 3 0 ≤ getD (now (counters .entry)) 3 0 + 1) ⌝ }
+    ensures { λ r. ⌜ Solves given replies scratch counters r (λ count n. askOr count kind first second (foldIs fold) quiet) ⌝ }
+    ensures { λ _. ⌜ AtMost counters 1 ⌝ }
 {
     let reply = ask(given, replies, scratch, counters, kind, first, second);
     if reply == 1 {
@@ -161,10 +163,10 @@ pub(crate) fn then_ask(
     second: usize,
     fold: Folded,
 ) -> Folded
-    requires { ⌜ (0 < length (now given)) × (countOf (now given) ≤ 4096) ⌝ }
-    requires { ⌜ 2 * countOf (now given) + 4 * (getD (now counters) 3 0 + 1) ≤ length (now scratch) ⌝ }
-    ensures { λ r. ⌜ ((h : List Held) (inputs R : List ℕ) → solvedOf h (now (given .entry)) inputs (now (replies .entry)) r (now (counters .exit)) R (now (scratch .exit)) ≡ thenAsk (length (now (replies .entry))) kind first second (foldIs fold) (solvedOf h (now (given .entry)) inputs (now (replies .entry)) before (now (counters .entry)) R (now (scratch .entry)))) ⌝ }
-    ensures { λ _. ⌜ (getD (now (counters .exit)) 0 0 ≡ getD (now (counters .entry)) 0 0) × (getD (now (counters .exit)) 3 0 ≤ getD (now (counters .entry)) 3 0 + 1) ⌝ }
+    requires { ⌜ Counted (now given) ⌝ }
+    requires { ⌜ HasAsks (now given) (now scratch) (getD (now counters) 3 0) 1 ⌝ }
+    ensures { λ r. ⌜ SolvesThen given replies scratch counters before r (λ count. thenAsk count kind first second (foldIs fold)) ⌝ }
+    ensures { λ _. ⌜ AtMost counters 1 ⌝ }
 {
     if is_refused(counters) {
         return before;
@@ -183,11 +185,11 @@ pub(crate) fn ask_bit(
     counters: &mut [usize; 9],
     node: usize,
 ) -> Folded
-    requires { ⌜ (0 < length (now given)) × (countOf (now given) ≤ 4096) ⌝ }
-    requires { ⌜ 2 * countOf (now given) + 4 * (getD (now counters) 3 0 + 2) ≤ length (now scratch) ⌝ }
+    requires { ⌜ Counted (now given) ⌝ }
+    requires { ⌜ HasAsks (now given) (now scratch) (getD (now counters) 3 0) 2 ⌝ }
     requires { ⌜ Going (now counters) ⌝ }
-    ensures { λ r. ⌜ ((h : List Held) (inputs R : List ℕ) → solvedOf h (now (given .entry)) inputs (now (replies .entry)) r (now (counters .exit)) R (now (scratch .exit)) ≡ askBit (length (now (replies .entry))) (countOf (now (given .entry))) node quiet (view h (now (given .entry)) inputs (now (replies .entry)) R (now (scratch .entry)) (walkIn (now (counters .entry))))) ⌝ }
-    ensures { λ _. ⌜ (getD (now (counters .exit)) 0 0 ≡ getD (now (counters .entry)) 0 0) × (getD (now (counters .exit)) 3 0 ≤ getD (now (counters .entry)) 3 0 + 2) ⌝ }
+    ensures { λ r. ⌜ Solves given replies scratch counters r (λ count n. askBit count n node quiet) ⌝ }
+    ensures { λ _. ⌜ AtMost counters 2 ⌝ }
 {
     let n = node_count(given);
     let first = ask_or(

@@ -5,18 +5,12 @@ use crate::settle::settle_solved;
 use crate::smt_solver::ask_bit;
 use crate::smt_solver::ask_or;
 use crate::smt_solver::then_ask;
-ghost use Prim.Native.Nat.{ℕ};
-ghost use mathlib.Core.Path.{_≡_};
-ghost use mathlib.Core.List.{List};
-ghost use lib.ListN.{length};
-ghost use Rattle.rules.specs.Walk.{Held};
 ghost use Rattle.rules.specs.Fold.{swap};
-ghost use Rattle.rules.specs.Questions.{askOr, askBit, quiet};
-ghost use Rattle.rules.specs.Visit.{Ways};
-ghost use Rattle.optimize.specs.View.{countOf, view, outcomeOf};
-ghost use Rattle.optimize.specs.Process.{thenAsk, settleThen};
+ghost use Rattle.rules.specs.Questions.{askBit, askOr, equal, quiet};
+ghost use Rattle.optimize.specs.Process.{thenAsk};
 ghost use Rattle.optimize.specs.Laid.{Room};
-ghost use Rattle.optimize.specs.Counters.{walkIn, Going, answerIn};
+ghost use Rattle.optimize.specs.Counters.{walkIn, Going};
+ghost use Rattle.optimize.specs.Clauses.{SettlesAsked};
 
 // A node that is asked about as a bit: whether it is always true, then whether it is always false.
 pub(crate) fn solve_boolean_binary(
@@ -29,7 +23,7 @@ pub(crate) fn solve_boolean_binary(
 ) -> usize
     requires { ⌜ Room (now given) (now result) (now scratch) (walkIn (now counters)) node ⌝ }
     requires { ⌜ Going (now counters) ⌝ }
-    ensures { λ r. ⌜ ((h : List Held) (inputs : List ℕ) (ways : Ways) → outcomeOf h (now (given .entry)) inputs (now (replies .entry)) (answerIn r (now (counters .exit))) (now (result .exit)) (now (scratch .exit)) ≡ settleThen (now (given .entry)) ways node (askBit (length (now (replies .entry))) (countOf (now (given .entry))) node quiet (view h (now (given .entry)) inputs (now (replies .entry)) (now (result .entry)) (now (scratch .entry)) (walkIn (now (counters .entry)))))) ⌝ }
+    ensures { λ r. ⌜ SettlesAsked given result scratch counters r replies node (λ count n. askBit count n node quiet) ⌝ }
 {
     let solved = ask_bit(given, replies, scratch, counters, node);
     settle_solved(given, result, scratch, counters, node, solved)
@@ -47,7 +41,7 @@ pub(crate) fn solve_ite_bit(
 ) -> usize
     requires { ⌜ Room (now given) (now result) (now scratch) (walkIn (now counters)) node ⌝ }
     requires { ⌜ Going (now counters) ⌝ }
-    ensures { λ r. ⌜ ((h : List Held) (inputs : List ℕ) (ways : Ways) → outcomeOf h (now (given .entry)) inputs (now (replies .entry)) (answerIn r (now (counters .exit))) (now (result .exit)) (now (scratch .exit)) ≡ settleThen (now (given .entry)) ways node (thenAsk (length (now (replies .entry))) 3 node x (swap x) (askBit (length (now (replies .entry))) (countOf (now (given .entry))) node quiet (view h (now (given .entry)) inputs (now (replies .entry)) (now (result .entry)) (now (scratch .entry)) (walkIn (now (counters .entry))))))) ⌝ }
+    ensures { λ r. ⌜ SettlesAsked given result scratch counters r replies node (λ count n σ. thenAsk count equal node x (swap x) (askBit count n node quiet σ)) ⌝ }
 {
     let bit = ask_bit(given, replies, scratch, counters, node);
     let solved = then_ask(
@@ -77,7 +71,7 @@ pub(crate) fn solve_ite_word(
 ) -> usize
     requires { ⌜ Room (now given) (now result) (now scratch) (walkIn (now counters)) node ⌝ }
     requires { ⌜ Going (now counters) ⌝ }
-    ensures { λ r. ⌜ ((h : List Held) (inputs : List ℕ) (ways : Ways) → outcomeOf h (now (given .entry)) inputs (now (replies .entry)) (answerIn r (now (counters .exit))) (now (result .exit)) (now (scratch .exit)) ≡ settleThen (now (given .entry)) ways node (thenAsk (length (now (replies .entry))) 3 node z (swap z) (askOr (length (now (replies .entry))) 3 node y (swap y) quiet (view h (now (given .entry)) inputs (now (replies .entry)) (now (result .entry)) (now (scratch .entry)) (walkIn (now (counters .entry))))))) ⌝ }
+    ensures { λ r. ⌜ SettlesAsked given result scratch counters r replies node (λ count n σ. thenAsk count equal node z (swap z) (askOr count equal node y (swap y) quiet σ)) ⌝ }
 {
     let left = ask_or(
         given,

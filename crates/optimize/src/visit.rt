@@ -30,11 +30,14 @@ ghost use mathlib.Core.Path.{_≡_};
 ghost use Rattle.rules.specs.Table.{kindOf};
 ghost use Rattle.rules.specs.Walk.{fresh};
 ghost use Rattle.tables.specs.NodeAnswers.{kindIs};
-ghost use Rattle.optimize.specs.View.{countOf, wordOf, markOf};
-ghost use Rattle.optimize.specs.Process.{formOf, visitOf, processOf, oneOf, twoOf, threeOf, leftOf, rightOf, bothOf, iteOf, valueOf, stepOf};
-ghost use Rattle.optimize.specs.CallWords.{LaidBy, VisitsBy, waysBy};
-ghost use Rattle.optimize.specs.Counters.{walkIn, Going, answerIn};
+ghost use Rattle.optimize.specs.Bounds.{countOf};
+ghost use Rattle.rules.specs.Sections.{wordOf};
+ghost use Rattle.optimize.specs.View.{markOf};
+ghost use Rattle.optimize.specs.Process.{formOf, processOf, oneOf, twoOf, threeOf, leftOf, rightOf, bothOf, iteOf, valueOf, stepOf};
+ghost use Rattle.optimize.specs.CallWords.{LaidBy};
+ghost use Rattle.optimize.specs.Counters.{walkIn, Going};
 ghost use Rattle.optimize.specs.declared.form.Form.{Form};
+ghost use Rattle.optimize.specs.Clauses.{Walks, WalksFrom};
 
 // Visits a node: processes it the first time, and later gives what was recorded.
 fn visit(
@@ -49,7 +52,7 @@ fn visit(
     requires { ⌜ LaidBy (now given) (now dumps) (now call) (now result) (now scratch) (walkIn (now counters)) ⌝ }
     requires { ⌜ node < countOf (now given) ⌝ }
     requires { ⌜ Going (now counters) ⌝ }
-    ensures { λ r. ⌜ VisitsBy (now (given .entry)) (now (call .entry)) (now (result .entry)) (now (scratch .entry)) (walkIn (now (counters .entry))) (answerIn r (now (counters .exit))) (now (result .exit)) (now (scratch .exit)) (node + 1) (λ f σ. visitOf (now (given .entry)) (waysBy (now (given .entry)) (now (dumps .entry)) (now (call .entry))) f σ node) ⌝ }
+    ensures { λ r. ⌜ Walks given dumps call result scratch counters r (node + 1) (λ g ways vis σ. vis σ node) ⌝ }
 {
     let mark = scratch[node];
     if mark == 0 {
@@ -76,7 +79,7 @@ fn process(
     requires { ⌜ node < countOf (now given) ⌝ }
     requires { ⌜ markOf (countOf (now given)) (now scratch) node ≡ fresh ⌝ }
     requires { ⌜ Going (now counters) ⌝ }
-    ensures { λ r. ⌜ VisitsBy (now (given .entry)) (now (call .entry)) (now (result .entry)) (now (scratch .entry)) (walkIn (now (counters .entry))) (answerIn r (now (counters .exit))) (now (result .exit)) (now (scratch .exit)) node (λ f σ. processOf (now (given .entry)) (waysBy (now (given .entry)) (now (dumps .entry)) (now (call .entry))) f σ node) ⌝ }
+    ensures { λ r. ⌜ Walks given dumps call result scratch counters r node (λ g ways vis σ. processOf g ways vis σ node) ⌝ }
 {
     let kind = kind_at(given, node);
     let form = form_of(kind, word(given, node, 3));
@@ -116,7 +119,7 @@ fn process_one(
     requires { ⌜ markOf (countOf (now given)) (now scratch) node ≡ fresh ⌝ }
     requires { ⌜ wordOf (now given) node 2 < node ⌝ }
     requires { ⌜ Going (now counters) ⌝ }
-    ensures { λ r. ⌜ VisitsBy (now (given .entry)) (now (call .entry)) (now (result .entry)) (now (scratch .entry)) (walkIn (now (counters .entry))) (answerIn r (now (counters .exit))) (now (result .exit)) (now (scratch .exit)) node (λ f σ. oneOf (now (given .entry)) (waysBy (now (given .entry)) (now (dumps .entry)) (now (call .entry))) f (kindIs kind) σ node) ⌝ }
+    ensures { λ r. ⌜ Walks given dumps call result scratch counters r node (λ g ways vis σ. oneOf g ways vis (kindIs kind) σ node) ⌝ }
 {
     let x = visit(
         given,
@@ -160,7 +163,7 @@ fn process_two(
     requires { ⌜ kindIs kind ≡ kindOf (wordOf (now given) node 0) ⌝ }
     requires { ⌜ Form.Two ≡ formOf (kindIs kind) (wordOf (now given) node 3) ⌝ }
     requires { ⌜ Going (now counters) ⌝ }
-    ensures { λ r. ⌜ VisitsBy (now (given .entry)) (now (call .entry)) (now (result .entry)) (now (scratch .entry)) (walkIn (now (counters .entry))) (answerIn r (now (counters .exit))) (now (result .exit)) (now (scratch .exit)) node (λ f σ. twoOf (now (given .entry)) (waysBy (now (given .entry)) (now (dumps .entry)) (now (call .entry))) f (kindIs kind) σ node) ⌝ }
+    ensures { λ r. ⌜ Walks given dumps call result scratch counters r node (λ g ways vis σ. twoOf g ways vis (kindIs kind) σ node) ⌝ }
 {
     let x = visit(
         given,
@@ -207,7 +210,7 @@ fn process_three(
     requires { ⌜ wordOf (now given) node 3 < node ⌝ }
     requires { ⌜ wordOf (now given) node 4 < node ⌝ }
     requires { ⌜ Going (now counters) ⌝ }
-    ensures { λ r. ⌜ VisitsBy (now (given .entry)) (now (call .entry)) (now (result .entry)) (now (scratch .entry)) (walkIn (now (counters .entry))) (answerIn r (now (counters .exit))) (now (result .exit)) (now (scratch .exit)) node (λ f σ. threeOf (now (given .entry)) (waysBy (now (given .entry)) (now (dumps .entry)) (now (call .entry))) f σ node) ⌝ }
+    ensures { λ r. ⌜ Walks given dumps call result scratch counters r node (λ g ways vis σ. threeOf g ways vis σ node) ⌝ }
 {
     let x = visit(
         given,
@@ -266,7 +269,7 @@ fn process_ite(
     requires { ⌜ wordOf (now given) node 3 < node ⌝ }
     requires { ⌜ wordOf (now given) node 4 < node ⌝ }
     requires { ⌜ Going (now counters) ⌝ }
-    ensures { λ r. ⌜ VisitsBy (now (given .entry)) (now (call .entry)) (now (result .entry)) (now (scratch .entry)) (walkIn (now (counters .entry))) (answerIn r (now (counters .exit))) (now (result .exit)) (now (scratch .exit)) node (λ f σ. iteOf (now (given .entry)) (waysBy (now (given .entry)) (now (dumps .entry)) (now (call .entry))) f σ node) ⌝ }
+    ensures { λ r. ⌜ Walks given dumps call result scratch counters r node (λ g ways vis σ. iteOf g ways vis σ node) ⌝ }
 {
     let x = visit(
         given,
@@ -304,7 +307,7 @@ fn process_left(
     requires { ⌜ markOf (countOf (now given)) (now scratch) node ≡ fresh ⌝ }
     requires { ⌜ wordOf (now given) node 3 < node ⌝ }
     requires { ⌜ Going (now counters) ⌝ }
-    ensures { λ r. ⌜ VisitsBy (now (given .entry)) (now (call .entry)) (now (result .entry)) (now (scratch .entry)) (walkIn (now (counters .entry))) (answerIn r (now (counters .exit))) (now (result .exit)) (now (scratch .exit)) node (λ f σ. leftOf (now (given .entry)) (waysBy (now (given .entry)) (now (dumps .entry)) (now (call .entry))) f x σ node) ⌝ }
+    ensures { λ r. ⌜ Walks given dumps call result scratch counters r node (λ g ways vis σ. leftOf g ways vis x σ node) ⌝ }
 {
     let y = visit(
         given,
@@ -338,7 +341,7 @@ fn process_right(
     requires { ⌜ markOf (countOf (now given)) (now scratch) node ≡ fresh ⌝ }
     requires { ⌜ wordOf (now given) node 4 < node ⌝ }
     requires { ⌜ Going (now counters) ⌝ }
-    ensures { λ r. ⌜ VisitsBy (now (given .entry)) (now (call .entry)) (now (result .entry)) (now (scratch .entry)) (walkIn (now (counters .entry))) (answerIn r (now (counters .exit))) (now (result .exit)) (now (scratch .exit)) node (λ f σ. rightOf (now (given .entry)) (waysBy (now (given .entry)) (now (dumps .entry)) (now (call .entry))) f x σ node) ⌝ }
+    ensures { λ r. ⌜ Walks given dumps call result scratch counters r node (λ g ways vis σ. rightOf g ways vis x σ node) ⌝ }
 {
     let z = visit(
         given,
@@ -373,7 +376,7 @@ fn process_both(
     requires { ⌜ wordOf (now given) node 3 < node ⌝ }
     requires { ⌜ wordOf (now given) node 4 < node ⌝ }
     requires { ⌜ Going (now counters) ⌝ }
-    ensures { λ r. ⌜ VisitsBy (now (given .entry)) (now (call .entry)) (now (result .entry)) (now (scratch .entry)) (walkIn (now (counters .entry))) (answerIn r (now (counters .exit))) (now (result .exit)) (now (scratch .exit)) node (λ f σ. bothOf (now (given .entry)) (waysBy (now (given .entry)) (now (dumps .entry)) (now (call .entry))) f x σ node) ⌝ }
+    ensures { λ r. ⌜ Walks given dumps call result scratch counters r node (λ g ways vis σ. bothOf g ways vis x σ node) ⌝ }
 {
     let y = visit(
         given,
@@ -419,7 +422,7 @@ fn process_next(
     requires { ⌜ wordOf (now given) node 2 < node ⌝ }
     requires { ⌜ wordOf (now given) node 3 < node ⌝ }
     requires { ⌜ Going (now counters) ⌝ }
-    ensures { λ r. ⌜ VisitsBy (now (given .entry)) (now (call .entry)) (now (result .entry)) (now (scratch .entry)) (walkIn (now (counters .entry))) (answerIn r (now (counters .exit))) (now (result .exit)) (now (scratch .exit)) node (λ f σ. stepOf (now (given .entry)) (waysBy (now (given .entry)) (now (dumps .entry)) (now (call .entry))) f σ node) ⌝ }
+    ensures { λ r. ⌜ Walks given dumps call result scratch counters r node (λ g ways vis σ. stepOf g ways vis σ node) ⌝ }
 {
     let state = operand(given, node, 2);
     let x = visit(given, result, scratch, dumps, call, counters, state);
@@ -444,7 +447,7 @@ fn process_value(
     requires { ⌜ markOf (countOf (now given)) (now scratch) node ≡ fresh ⌝ }
     requires { ⌜ wordOf (now given) node 3 < node ⌝ }
     requires { ⌜ Going (now counters) ⌝ }
-    ensures { λ r. ⌜ VisitsBy (now (given .entry)) (now (call .entry)) (now (result .entry)) (now (scratch .entry)) (walkIn (now (counters .entry))) (answerIn r (now (counters .exit))) (now (result .exit)) (now (scratch .exit)) node (λ f σ. valueOf (now (given .entry)) (waysBy (now (given .entry)) (now (dumps .entry)) (now (call .entry))) f σ node) ⌝ }
+    ensures { λ r. ⌜ Walks given dumps call result scratch counters r node (λ g ways vis σ. valueOf g ways vis σ node) ⌝ }
 {
     let y = visit(
         given,
@@ -482,7 +485,7 @@ pub(crate) fn visit_entry(
 ) -> Visited
     requires { ⌜ LaidBy (now given) (now dumps) (now call) (now result) (now scratch) walk ⌝ }
     requires { ⌜ node < countOf (now given) ⌝ }
-    ensures { λ r. ⌜ VisitsBy (now (given .entry)) (now (call .entry)) (now (result .entry)) (now (scratch .entry)) walk r (now (result .exit)) (now (scratch .exit)) (node + 1) (λ f σ. visitOf (now (given .entry)) (waysBy (now (given .entry)) (now (dumps .entry)) (now (call .entry))) f σ node) ⌝ }
+    ensures { λ r. ⌜ WalksFrom given dumps call result scratch walk r node ⌝ }
 {
     let mut counters = [0usize; 9];
     put_walk(walk, &mut counters);

@@ -1,4 +1,5 @@
 pub mod Lists
+pub mod Lent
 pub mod Refusal
 pub mod Table
 pub mod Model

@@ -4,7 +4,7 @@ use borrow.Author.Needs.{needs}
 use native.Mathlib.Omega.{arith}
 use lib.ListN.{length-set}
 use Prim.Native.Nat.{_+_, _*_}
-use Rattle.optimize.specs.View.{countOf}
+use Rattle.optimize.specs.Bounds.{countOf}
 use Rattle.optimize.proofs.Stores.{marked, two-sets}
 use Rattle.optimize.proofs.buffers.put_mark.Statement.{statement}
 use Rattle.optimize.proofs.buffers.put_mark.Tie as tie

@@ -6,7 +6,8 @@ use borrow.Author.Tests.{not-true, not-false}
 use mathlib.Core.List.{[], _∷_, _++_}
 use lib.ListN.{getD, drop}
 use Rattle.rules.specs.Table.{fits}
-use Rattle.optimize.specs.View.{view, countOf, tableOf, waysIn}
+use Rattle.optimize.specs.Bounds.{countOf}
+use Rattle.optimize.specs.View.{view, tableOf, waysIn}
 use Rattle.optimize.proofs.Finishes.{take-none, take-dump, take-memory, take-wide, take-made, inputs-none, inputs-some, took}
 use mathlib.Core.Path.{ap, sym, _∙_, subst}
 use Prim.Native.Nat.{suc, _+_, _<_}

@@ -8,7 +8,8 @@ use native.Mathlib.Omega.{arith}
 use lib.ListN.{length, take, drop}
 use Rattle.rules.specs.Walk.{Held}
 use Rattle.rules.specs.Whole.{visitAll}
-use Rattle.optimize.specs.View.{countOf, tableOf, view}
+use Rattle.optimize.specs.Bounds.{countOf}
+use Rattle.optimize.specs.View.{tableOf, view}
 use Rattle.optimize.specs.Laid.{Laid}
 use Rattle.optimize.specs.Lists.{entriesOf}
 use lib.Seq.{length-take-le}

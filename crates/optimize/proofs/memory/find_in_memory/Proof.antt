@@ -5,7 +5,7 @@ use Prim.Native.Nat.{_-_}
 use mathlib.Core.Path.{_≡_}
 use mathlib.Core.Logic.{⊎-elim}
 use native.Mathlib.Omega.{arith}
-use Rattle.optimize.specs.View.{countOf}
+use Rattle.optimize.specs.Bounds.{countOf}
 use Rattle.optimize.proofs.SearchLaws.{Searched, search-start, search-settled, search-unsettled, hit-within, search-hit, search-end}
 use Rattle.optimize.proofs.memory.find_in_memory.Statement.{statement}
 use Rattle.optimize.proofs.memory.find_in_memory.Tie as tie

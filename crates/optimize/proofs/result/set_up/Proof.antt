@@ -7,7 +7,7 @@ use mathlib.Core.Path.{sym}
 use lib.ListN.{length-set}
 use lib.Seq.{length-front}
 use denote.Ref.{now}
-use Rattle.optimize.specs.View.{countOf}
+use Rattle.optimize.specs.Bounds.{countOf}
 use Rattle.optimize.proofs.SetUpLaws.{set-up-left}
 use Rattle.optimize.proofs.Entries.{zero-less}
 use Rattle.optimize.proofs.result.set_up.Statement.{statement}

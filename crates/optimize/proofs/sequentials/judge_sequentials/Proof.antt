@@ -12,7 +12,8 @@ use Rattle.rules.specs.Walk.{Held}
 use Rattle.rules.specs.Legal.{Sequential}
 use Rattle.rules.specs.Whole.{judgeSequentials}
 use Rattle.optimize.specs.declared.walk.Walk.{Walk}
-use Rattle.optimize.specs.View.{countOf, tableOf, view}
+use Rattle.optimize.specs.Bounds.{countOf}
+use Rattle.optimize.specs.View.{tableOf, view}
 use Rattle.optimize.specs.Lists.{entriesOf, joined}
 use Rattle.optimize.proofs.Entries.{all-at, judged-all}
 use Rattle.optimize.proofs.sequentials.judge_sequentials.Statement.{statement}

@@ -9,7 +9,8 @@ use mathlib.Core.Path.{ap, sym, _∙_, subst}
 use Prim.Native.Nat.{_<_}
 use lib.ListN.{getD}
 use Rattle.optimize.specs.declared.walk.Walk.{Walk}
-use Rattle.optimize.specs.View.{view, countOf, waysIn}
+use Rattle.optimize.specs.Bounds.{countOf}
+use Rattle.optimize.specs.View.{view, waysIn}
 use Rattle.optimize.specs.Counters.{walkIn, tallied}
 use Rattle.optimize.proofs.CounterLaws.{walk-put, still-goes}
 use Rattle.optimize.proofs.Finishes.{forward-none, forward-some, tally-is}

@@ -5,7 +5,7 @@ use mathlib.Core.Path.{ap, _∙_}
 use native.Mathlib.Omega.{arith}
 use lib.ListN.{length}
 use Rattle.rules.specs.Fold.{swap}
-use Rattle.optimize.specs.View.{countOf}
+use Rattle.optimize.specs.Bounds.{countOf}
 use Rattle.optimize.specs.Process.{thenAsk}
 use Rattle.optimize.proofs.Asks.{chain-bit}
 use Rattle.optimize.proofs.smt_solver.ask_bit.Statement.{statement}

@@ -52,7 +52,7 @@ returns c =
     let at-if1 = at-process .before .before .before .before in
     let at-put-walk = at-if1 .before .before in
     let start = at-put-walk .before .before .before .before .before in
-    λ h. deep (λ f. Meets (start .args .given .now) (inputsIn (start .args .given .now) (start .args .call .now)) (repliesIn (start .args .given .now) (start .args .call .now)) _ _ _ (visitOf (start .args .given .now) (waysBy (start .args .given .now) (start .args .dumps .now) (start .args .call .now)) f (view h (start .args .given .now) (inputsIn (start .args .given .now) (start .args .call .now)) (repliesIn (start .args .given .now) (start .args .call .now)) (start .args .result .now) (start .args .scratch .now) (start .args .walk)) (start .args .node))) (start .args .node) (λ f l. again-fresh (start .args .given .now) (inputsIn (start .args .given .now) (start .args .call .now)) (repliesIn (start .args .given .now) (start .args .call .now)) (start .args .result .now) (start .args .scratch .now) (start .args .walk) (waysBy (start .args .given .now) (start .args .dumps .now) (start .args .call .now)) f h (start .args .node) (start .pre .1) _ _ _ (at-if1 .if1 .taken) (entered (start .args .given .now) (inputsIn (start .args .given .now) (start .args .call .now)) (repliesIn (start .args .given .now) (start .args .call .now)) (start .args .result .now) (start .args .scratch .now) _ _ _ _ _ _ _ (λ f σ. processOf (start .args .given .now) (waysBy (start .args .given .now) (start .args .dumps .now) (start .args .call .now)) f σ (start .args .node)) (ap walkIn (at-put-walk .put-walk .ensures)) (c .visited-in .ensures) (at-process .process .ensures) h f l))
+    λ h. deep (λ f. Meets (start .args .given .now) (inputsIn (start .args .given .now) (start .args .call .now)) (repliesIn (start .args .given .now) (start .args .call .now)) _ _ _ (visitOf (start .args .given .now) (waysBy (start .args .given .now) (start .args .dumps .now) (start .args .call .now)) f (view h (start .args .given .now) (inputsIn (start .args .given .now) (start .args .call .now)) (repliesIn (start .args .given .now) (start .args .call .now)) (start .args .result .now) (start .args .scratch .now) (start .args .walk)) (start .args .node))) (start .args .node) (λ f l. again-fresh (start .args .given .now) (inputsIn (start .args .given .now) (start .args .call .now)) (repliesIn (start .args .given .now) (start .args .call .now)) (start .args .result .now) (start .args .scratch .now) (start .args .walk) (waysBy (start .args .given .now) (start .args .dumps .now) (start .args .call .now)) f h (start .args .node) (start .pre .1) _ _ _ (at-if1 .if1 .taken) (entered (start .args .given .now) (inputsIn (start .args .given .now) (start .args .call .now)) (repliesIn (start .args .given .now) (start .args .call .now)) (start .args .result .now) (start .args .scratch .now) _ _ _ _ _ _ _ (λ f σ. processOf (start .args .given .now) (waysBy (start .args .given .now) (start .args .dumps .now) (start .args .call .now)) (visitOf (start .args .given .now) (waysBy (start .args .given .now) (start .args .dumps .now) (start .args .call .now)) f) σ (start .args .node)) (ap walkIn (at-put-walk .put-walk .ensures)) (c .visited-in .ensures) (at-process .process .ensures) h f l))
 
 visit-requires : tie.Need-visit-requires
 visit-requires c κs =
