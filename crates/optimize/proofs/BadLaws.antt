@@ -11,6 +11,7 @@ use lib.ListN.{length, getD, take, drop, set, drop-of-length-le}
 use lib.Dec.{eqb}
 use lib.Seq.{take-set-le, take-take, drop-cons, getD-take}
 use borrow.Author.Tests.{eq-eqb, ne-eqb}
+use Rattle.rules.specs.Model.{Mode}
 use Rattle.rules.specs.Refusal.{Out, refused, done, refuse, _>>=_}
 use Rattle.rules.specs.Table.{Node}
 use Rattle.rules.specs.Legal.{BadEntry}
@@ -138,13 +139,13 @@ module _ (g inputs replies : List ℕ) (ways : Ways) (how : Judging) (place b : 
   retain-refused z e = ap judged (sym (ap (λ v. outcomeOf (m .0) g inputs replies v R S) e) ∙ m .1 ∙ top)
 
 -- room for more questions stays through a visit
-pub spare-visited : (g dumps inputs replies : List ℕ) (minimise : Bool) (R S Q T : List ℕ) (w w′ : Walk) (k a c : ℕ) (r : Visited) (l : Laid g dumps inputs replies minimise R S w) → k < countOf g
-    → ((h : List Held) (f : ℕ) → k + 1 ≤ f → Meets g inputs replies r Q T (visitOf g (waysIn dumps minimise replies) f (view h g inputs replies R S w) k)) → r ≡ Visited.Done w′ a
-    → length T ≡ length S → Spare g S w c → Spare g T w′ c
-spare-visited g dumps inputs replies minimise R S Q T w w′ k a c r l i v e q s =
+pub spare-visited : (g dumps inputs replies : List ℕ) (mode : Mode) (reserve : ℕ) (R S Q T : List ℕ) (w w′ : Walk) (k a c : ℕ) (r : Visited) (l : Laid g dumps inputs replies mode reserve R S w) → k < countOf g
+    → ((h : List Held) (f : ℕ) → k + 1 ≤ f → Meets g inputs replies r Q T (visitOf g (waysIn dumps mode replies) f (view h g inputs replies R S w) k)) → r ≡ Visited.Done w′ a
+    → length T ≡ length S → Spare reserve g S w c → Spare reserve g T w′ c
+spare-visited g dumps inputs replies mode reserve R S Q T w w′ k a c r l i v e q s =
     let z = v (l .held) (k + 1) (omega arith) in
-    let d = came-done g inputs replies Q T r (visitOf g (waysIn dumps minimise replies) (k + 1) (view (l .held) g inputs replies R S w) k) z w′ a e in
-    omega (arith, s, asked-kept g dumps inputs replies minimise R S Q T w w′ (k + 1) k a (z .0) l i d)
+    let d = came-done g inputs replies Q T r (visitOf g (waysIn dumps mode replies) (k + 1) (view (l .held) g inputs replies R S w) k) z w′ a e in
+    omega (arith, s, asked-kept g dumps inputs replies mode reserve R S Q T w w′ (k + 1) k a (z .0) l i d)
 
 -- ---- an entry that stays
 pub kept-entry : (S T : List ℕ) (list kept entry : ℕ) (stays : Bool) → T ≡ set S (list + kept) entry → list + kept < length S → stays ≡ true → KeptIf S T list kept entry stays (kept + 1)
@@ -200,10 +201,10 @@ list-start (refused z) = refl
 list-start (done r) = refl
 
 -- ---- what a judged bad leaves
-module _ (g dumps inputs replies : List ℕ) (minimise : Bool) (R S Q T : List ℕ) (w w′ : Walk) (how : Judging) (i b : ℕ) (r : Retained) (stays : Bool) (l : Laid g dumps inputs replies minimise R S w)
-    (bad : BadEntry (tableOf g) b) (v : Retains g inputs replies R S w r Q T (retainRule g (waysIn dumps minimise replies) how i b)) (e : r ≡ Retained.Done w′ stays) where
+module _ (g dumps inputs replies : List ℕ) (mode : Mode) (reserve : ℕ) (R S Q T : List ℕ) (w w′ : Walk) (how : Judging) (i b : ℕ) (r : Retained) (stays : Bool) (l : Laid g dumps inputs replies mode reserve R S w)
+    (bad : BadEntry (tableOf g) b) (v : Retains g inputs replies R S w r Q T (retainRule g (waysIn dumps mode replies) how i b)) (e : r ≡ Retained.Done w′ stays) where
   abbrev ways : Ways
-  ways = waysIn dumps minimise replies
+  ways = waysIn dumps mode replies
 
   pub retained-is : (h : List Held) → retainRule g ways how i b (view h g inputs replies R S w) ≡ done (view (v h .0) g inputs replies Q T w′, judgement stays)
   unfolding retainedOf
@@ -232,10 +233,10 @@ module _ (g dumps inputs replies : List ℕ) (minimise : Bool) (R S Q T : List �
       let s = walked .looks in
       omega (arith, s, ap (λ n. unpaid (fee (tableOf g)) n (markOf (countOf g) T)) (table-length g), ap (λ n. unpaid (fee (tableOf g)) n (markOf (countOf g) S)) (table-length g))
 
-  pub spare-retained : length T ≡ length S → (c : ℕ) → Spare g S w (c + 1) → Spare g T w′ c
+  pub spare-retained : length T ≡ length S → (c : ℕ) → Spare reserve g S w (c + 1) → Spare reserve g T w′ c
   spare-retained q c s = omega (arith, s, asked-more)
 
-  pub laid-retained : length Q ≡ length R → length T ≡ length S → Spare g S w 1 → Laid g dumps inputs replies minimise Q T w′
+  pub laid-retained : length Q ≡ length R → length T ≡ length S → Spare reserve g S w 1 → Laid g dumps inputs replies mode reserve Q T w′
   laid-retained p q s =
       record {
         legal = l .legal;
@@ -267,15 +268,15 @@ bads-still S T U at list e f j a b = sym (getD-take list U j 0 b) ∙ ap (λ l. 
 pub bad-inside : (g : List ℕ) (b : ℕ) → BadEntry (tableOf g) b → b < countOf g
 bad-inside g b e = omega (arith, e .inside, table-length g)
 
-pub spare-less : (g S : List ℕ) (w : Walk) (c d : ℕ) → d ≤ c → Spare g S w c → Spare g S w d
-spare-less g S w c d l s = omega (arith, s)
+pub spare-less : (reserve : ℕ) (g S : List ℕ) (w : Walk) (c d : ℕ) → d ≤ c → Spare reserve g S w c → Spare reserve g S w d
+spare-less reserve g S w c d l s = omega (arith, s)
 
-module _ (g dumps inputs replies : List ℕ) (minimise : Bool) (how : Judging) (bs R S : List ℕ) (at list : ℕ) (w : Walk) (kept i : ℕ) (σ₀ : St) (Q T : List ℕ) (b : ℕ) (nb : b ≡ getD bs i 0) (l : i < length bs) (r : Retained)
-    (p : (h : List Held) × (D : List ℕ) × (listRule g (waysIn dumps minimise replies) how 0 σ₀ bs
-    ≡ (listRule g (waysIn dumps minimise replies) how i (view h g inputs replies R (take at S) w) (drop i bs) >>= λ q. done (before (entriesOf S list kept) D q))))
-    (v : Retains g inputs replies R (take at S) w r Q (take at T) (retainRule g (waysIn dumps minimise replies) how i b)) where
+module _ (g dumps inputs replies : List ℕ) (mode : Mode) (reserve : ℕ) (how : Judging) (bs R S : List ℕ) (at list : ℕ) (w : Walk) (kept i : ℕ) (σ₀ : St) (Q T : List ℕ) (b : ℕ) (nb : b ≡ getD bs i 0) (l : i < length bs) (r : Retained)
+    (p : (h : List Held) × (D : List ℕ) × (listRule g (waysIn dumps mode replies) how 0 σ₀ bs
+    ≡ (listRule g (waysIn dumps mode replies) how i (view h g inputs replies R (take at S) w) (drop i bs) >>= λ q. done (before (entriesOf S list kept) D q))))
+    (v : Retains g inputs replies R (take at S) w r Q (take at T) (retainRule g (waysIn dumps mode replies) how i b)) where
   abbrev call : Ways
-  call = waysIn dumps minimise replies
+  call = waysIn dumps mode replies
 
   abbrev now : St
   now = view (p .0) g inputs replies R (take at S) w
@@ -318,11 +319,11 @@ done-walk v w j k e = cc
 done-kept : (v w : Walk) (j k : ℕ) → Judged.Done v j ≡ Judged.Done w k → j ≡ k
 done-kept v w j k e = cc
 
-pub laid-end : (g dumps inputs replies : List ℕ) (minimise : Bool) (R S : List ℕ) (v : Walk) (j : ℕ) → Laid g dumps inputs replies minimise R S v → (w : Walk) (k : ℕ) → Judged.Done v j ≡ Judged.Done w k → Laid g dumps inputs replies minimise R S w
-laid-end g dumps inputs replies minimise R S v j l w k e = subst (Laid g dumps inputs replies minimise R S) (done-walk v w j k e) l
+pub laid-end : (g dumps inputs replies : List ℕ) (mode : Mode) (reserve : ℕ) (R S : List ℕ) (v : Walk) (j : ℕ) → Laid g dumps inputs replies mode reserve R S v → (w : Walk) (k : ℕ) → Judged.Done v j ≡ Judged.Done w k → Laid g dumps inputs replies mode reserve R S w
+laid-end g dumps inputs replies mode reserve R S v j l w k e = subst (Laid g dumps inputs replies mode reserve R S) (done-walk v w j k e) l
 
 pub few-end : (v : Walk) (j n : ℕ) → j ≤ n → (w : Walk) (k : ℕ) → Judged.Done v j ≡ Judged.Done w k → k ≤ n
 few-end v j n l w k e = omega (arith, done-kept v w j k e)
 
-pub spare-end : (g S : List ℕ) (v : Walk) (j c : ℕ) (w : Walk) (k : ℕ) → Judged.Done v j ≡ Judged.Done w k → Spare g S v c → Spare g S w c
-spare-end g S v j c w k e s = subst (λ z. Spare g S z c) (done-walk v w j k e) s
+pub spare-end : (reserve : ℕ) (g S : List ℕ) (v : Walk) (j c : ℕ) (w : Walk) (k : ℕ) → Judged.Done v j ≡ Judged.Done w k → Spare reserve g S v c → Spare reserve g S w c
+spare-end reserve g S v j c w k e s = subst (λ z. Spare reserve g S z c) (done-walk v w j k e) s

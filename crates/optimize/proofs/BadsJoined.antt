@@ -24,7 +24,7 @@ use Rattle.optimize.specs.Lists.{entriesOf}
 use Rattle.optimize.specs.Laid.{Laid}
 use Rattle.optimize.specs.Bads.{Spare, judgedOf}
 use Rattle.optimize.specs.Ending.{Ended}
-use Rattle.optimize.specs.Runs.{modelIn, modeIn, Underway, Ends}
+use Rattle.optimize.specs.Runs.{modelIn, Underway, Ends}
 use Rattle.optimize.proofs.Steps.{table-length}
 use Rattle.optimize.proofs.Keeps.{codes-known}
 use Rattle.optimize.proofs.RunLaws.{first-refused, later-refused, both-judged, entries-still, folded-is}
@@ -39,12 +39,12 @@ module _ (h : List Held) (d g ins reps : List ℕ) (r : Judged) (R S : List ℕ)
   unfolding judgedOf
   judged-done w count q = sym e ∙ ap (λ (x : Judged). judgedOf h d g ins reps x R S at list) q
 
-module _ (g dumps ss initial later ins reps : List ℕ) (minimise : Bool) (R S : List ℕ) (w : Walk) (at count : ℕ) (u : Underway g dumps ss initial later ins reps minimise R S w at count) where
+module _ (g dumps ss initial later ins reps : List ℕ) (mode : Mode) (R S : List ℕ) (w : Walk) (at count : ℕ) (u : Underway g dumps ss initial later ins reps mode R S w at count) where
   pub lists-fit : at + length ss + length initial + length later ≤ length S
   lists-fit = omega (arith, u .place, u .runnable .scratch)
 
   -- what a run leaves at its end
-  pub ended : (Q T : List ℕ) (v : Walk) (k : Kept) → length Q ≡ length R → length T ≡ length S → Laid g dumps ins reps minimise Q (take at T) v → Spare g (take at T) v 1
+  pub ended : (Q T : List ℕ) (v : Walk) (k : Kept) → length Q ≡ length R → length T ≡ length S → Laid g dumps ins reps mode 0 Q (take at T) v → Spare 0 g (take at T) v 1
       → k .sequentials ≤ length ss → k .initial ≤ length initial → k .later ≤ length later → Ended g ins Q T v k (record { sequentials = length ss; initial = length initial; later = length later })
   ended Q T v k p q laid spare a b c =
       record {
@@ -58,24 +58,28 @@ module _ (g dumps ss initial later ins reps : List ℕ) (minimise : Bool) (R S :
         sequentials = a;
         initial = b;
         later = c;
-        known = codes-known g dumps ins reps minimise Q (take at T) v laid;
+        known = codes-known g dumps ins reps mode 0 Q (take at T) v laid;
       }
 
   pub model-of : ModelOf g ins reps (modelIn g dumps ss initial later ins reps)
   model-of = record { nodes = table-length g; inputs = refl; replies = refl }
 
-  module _ (terminate : Bool) (σ : St) where
+  -- the bads are judged under what the mode says of terminate
+  module _ (terminate : Bool) (t : terminate ≡ mode .terminate) (σ : St) where
     abbrev m : Model
     m = modelIn g dumps ss initial later ins reps
 
     abbrev how : Mode
-    how = modeIn minimise terminate false
+    how = mode
+
+    at-terminate : (section : ℕ) (τ : St) (bs : List ℕ) (o : Out Bads) → bads m how true terminate section τ bs ≡ o → bads m how true (mode .terminate) section τ bs ≡ o
+    at-terminate section τ bs o e = ap (λ (b : Bool). bads m how true b section τ bs) (sym t) ∙ e
 
     pub both-ended : (S₁ Q T : List ℕ) (h₁ h₂ : List Held) (d₁ d₂ R₁ : List ℕ) (w₁ v : Walk) (i k room r : ℕ) (U : List ℕ)
         → bads m how true terminate 3 σ initial ≡ done (record { after = view h₁ g ins reps R₁ (take at S₁) w₁; stay = entriesOf S₁ (at + length ss) i; dropped = d₁ })
         → bads m how true terminate 4 (view h₁ g ins reps R₁ (take at S₁) w₁) later ≡ done (record { after = view h₂ g ins reps Q (take at T) v; stay = entriesOf T (at + length ss + length initial) k; dropped = d₂ })
         → ((j : ℕ) → at ≤ j → j < at + length ss → getD S₁ j 0 ≡ getD S j 0) → ((j : ℕ) → at ≤ j → j < at + length ss + length initial → getD T j 0 ≡ getD S₁ j 0)
-        → length S₁ ≡ length S → length T ≡ length S → i ≤ length initial → Spare g (take at T) v 1
+        → length S₁ ≡ length S → length T ≡ length S → i ≤ length initial → Spare 0 g (take at T) v 1
         → Handed (flatten (resultWords m (foldedIn h₂ (d₁ ++ d₂) g ins reps Q T v (record { sequentials = count; initial = i; later = k }) (record { sequentials = length ss; initial = length initial; later = length later }) 0))) (length Q) U r → length Q ≡ room
         → Ends m (foldBads m how false σ (entriesOf S at count)) room (Optimized.Done r) U
     unfolding Ends
@@ -88,14 +92,14 @@ module _ (g dumps ss initial later ins reps : List ℕ) (minimise : Bool) (R S :
         let first : entriesOf S at count ≡ entriesOf T at count = sym (entries-still S T at count (omega (arith, lists-fit)) (omega (arith, lists-fit)) (λ j l n. b j l (omega arith) ∙ a j l (omega arith))) in
         let second : entriesOf S₁ (at + length ss) i ≡ entriesOf T (at + length ss) i = sym (entries-still S₁ T (at + length ss) i (omega (arith, lists-fit)) (omega (arith, lists-fit)) (λ j l n. b j (omega arith) (omega arith))) in (
           f,
-          both-judged m how σ (entriesOf S at count) x e₁ y e₂,
+          both-judged m how σ (entriesOf S at count) x (at-terminate 3 σ initial (done x) e₁) y (at-terminate 4 (x .after) later (done y) e₂),
           subst (λ (z : Folded). Handed (flatten (resultWords m z)) room U r) (sym (folded-is h₂ (d₁ ++ d₂) g ins reps Q T v (record { sequentials = count; initial = i; later = k }) (record { sequentials = length ss; initial = length initial; later = length later }) 0 at (entriesOf S at count) (x .stay) (y .stay) (u .place) asks first second refl)) (subst (λ (c : ℕ). Handed (flatten (resultWords m (foldedIn h₂ (d₁ ++ d₂) g ins reps Q T v (record { sequentials = count; initial = i; later = k }) (record { sequentials = length ss; initial = length initial; later = length later }) 0))) c U r) same hand),
         )
 
     pub first-ends : (z : Refusal) (room : ℕ) (U : List ℕ) → bads m how true terminate 3 σ initial ≡ refused (refusalOf z) → Ends m (foldBads m how false σ (entriesOf S at count)) room (Optimized.Refused z) U
     unfolding Ends
-    first-ends z room U e = first-refused m how σ (entriesOf S at count) (refusalOf z) e
+    first-ends z room U e = first-refused m how σ (entriesOf S at count) (refusalOf z) (at-terminate 3 σ initial (refused (refusalOf z)) e)
 
     pub later-ends : (i : Bads) (z : Refusal) (room : ℕ) (U : List ℕ) → bads m how true terminate 3 σ initial ≡ done i → bads m how true terminate 4 (i .after) later ≡ refused (refusalOf z) → Ends m (foldBads m how false σ (entriesOf S at count)) room (Optimized.Refused z) U
     unfolding Ends
-    later-ends i z room U e d = later-refused m how σ (entriesOf S at count) i e (refusalOf z) d
+    later-ends i z room U e d = later-refused m how σ (entriesOf S at count) i (at-terminate 3 σ initial (done i) e) (refusalOf z) (at-terminate 4 (i .after) later (refused (refusalOf z)) d)

@@ -9,6 +9,7 @@ use native.Mathlib.Nat.{mul-le-mul}
 use native.Mathlib.Omega.{arith}
 use lib.ListN.{length}
 use Rattle.btor.specs.Operators.{bit, rust}
+use Rattle.rules.specs.Model.{Mode}
 use Rattle.rules.specs.Lists.{All}
 use Rattle.rules.specs.Table.{Write, Read, Node, nodeAt, is}
 use Rattle.rules.specs.Legal.{AllLegal, Sequential}
@@ -52,21 +53,21 @@ all-fees t h =
     let w : length t * writes t ≤ mostNodes * mostNodes = mul-le-mul h few in
     omega (arith, fees t (length t), w)
 
-module _ (g dumps ins reps : List ℕ) (minimise : Bool) (legal : AllLegal (tableOf g)) where
+module _ (g dumps ins reps : List ℕ) (mode : Mode) (reserve : ℕ) (legal : AllLegal (tableOf g)) where
   abbrev ways : Ways
-  ways = waysIn dumps minimise reps
+  ways = waysIn dumps mode reps
 
   abbrev begin : St
   begin = start (tableOf g) ins reps
 
   begin-fine : Fine (tableOf g) ways ins reps begin
-  begin-fine = record { shape = start-shape (tableOf g) legal (λ k. fresh) (λ k. refl); books = start-books (tableOf g) rust ins reps; used = λ r l u. let o : ⊥ = omega arith in absurd o; marked = tt; fair = omega arith; gained = omega arith }
+  begin-fine = record { shape = start-shape (tableOf g) legal (λ k. fresh) (λ k. refl); books = start-books (tableOf g) (mode .reading) ins reps; used = λ r l u. let o : ⊥ = omega arith in absurd o; marked = tt; fair = omega arith; gained = omega arith }
 
   pub begins-fine : (ss R S : List ℕ) → All (Sequential (tableOf g)) ss → view [] g ins reps R S untouched ≡ judgeSequentials (tableOf g) begin ss .0 → Fine (tableOf g) ways ins reps (view [] g ins reps R S untouched)
   begins-fine ss R S h e = subst (λ (σ : St). Fine (tableOf g) ways ins reps σ) (sym e) (sequentials-walked (tableOf g) ways ins reps legal begin ss refl h .goes begin-fine .fine)
 
-  pub begins : (ss R S : List ℕ) → All (Sequential (tableOf g)) ss → countOf g ≤ mostNodes → rowsEnd (countOf g) ≤ length g → roomOf (countOf g) ≤ length R → 2 * countOf g + 12 * countOf g ≤ length S
-      → view [] g ins reps R S untouched ≡ judgeSequentials (tableOf g) begin ss .0 → Laid g dumps ins reps minimise R S untouched
+  pub begins : (ss R S : List ℕ) → All (Sequential (tableOf g)) ss → countOf g ≤ mostNodes → rowsEnd (countOf g) ≤ length g → roomOf (countOf g) ≤ length R → 2 * countOf g + 12 * countOf g + reserve ≤ length S
+      → view [] g ins reps R S untouched ≡ judgeSequentials (tableOf g) begin ss .0 → Laid g dumps ins reps mode reserve R S untouched
   unfolding view firsts
   begins ss R S h small whole room asks e =
       let n = table-length g in

@@ -8,6 +8,7 @@ use mathlib.Core.List.{List, []}
 use native.Mathlib.Omega.{arith}
 use lib.ListN.{length, take, length-take}
 use lib.Seq.{getD-take}
+use Rattle.rules.specs.Model.{Mode}
 use Rattle.rules.specs.Lists.{All}
 use Rattle.rules.specs.Refusal.{done}
 use Rattle.rules.specs.Legal.{AllLegal, Sequential}
@@ -46,18 +47,18 @@ unfolding unpaid
 unpaid-most p zero f = omega arith
 unpaid-most p (suc c) f = omega (arith, due-most p (f c), unpaid-most p c f)
 
-module _ (g dumps ins reps ss R S : List ℕ) (minimise : Bool) (at count : ℕ) (legal : AllLegal (tableOf g)) (listed : All (Sequential (tableOf g)) ss)
-    (small : countOf g ≤ mostNodes) (whole : rowsEnd (countOf g) ≤ length g) (room : roomOf (countOf g) ≤ length R) (enough : 14 * countOf g ≤ at) (inside : at ≤ length S)
+module _ (g dumps ins reps ss R S : List ℕ) (mode : Mode) (reserve : ℕ) (at count : ℕ) (legal : AllLegal (tableOf g)) (listed : All (Sequential (tableOf g)) ss)
+    (small : countOf g ≤ mostNodes) (whole : rowsEnd (countOf g) ≤ length g) (room : roomOf (countOf g) ≤ length R) (enough : 14 * countOf g + reserve ≤ at) (inside : at ≤ length S)
     (e : judgeSequentials (tableOf g) (start (tableOf g) ins reps) ss ≡ (view [] g ins reps R S untouched, entriesOf S at count)) where
   abbrev ways : Ways
-  ways = waysIn dumps minimise reps
+  ways = waysIn dumps mode reps
 
   front : view [] g ins reps R (take at S) untouched ≡ judgeSequentials (tableOf g) (start (tableOf g) ins reps) ss .0
   front = view-front [] g ins reps R S untouched at (omega arith) ∙ sym (ap (λ (r : St × List ℕ). r .0) e)
 
-  pub laid-begun : Laid g dumps ins reps minimise R (take at S) untouched
+  pub laid-begun : Laid g dumps ins reps mode reserve R (take at S) untouched
   laid-begun =
-      begins g dumps ins reps minimise legal ss R (take at S) listed small whole room (omega (arith, length-take at S)) front
+      begins g dumps ins reps mode reserve legal ss R (take at S) listed small whole room (omega (arith, length-take at S)) front
 
   pub entries-begun : All (λ k. k < countOf g) (entriesOf S at count)
   entries-begun =
@@ -71,6 +72,6 @@ module _ (g dumps ins reps ss R S : List ℕ) (minimise : Bool) (at count : ℕ)
   spare-visited Q T w h d =
       let σ : St = view [] g ins reps R (take at S) untouched in
       let inside′ : All (λ k. k < length (tableOf g)) (entriesOf S at count) = subst (λ (c : ℕ). All (λ k. k < c) (entriesOf S at count)) (sym (table-length g)) entries-begun in
-      let x : Walked (tableOf g) ways ins reps legal 0 σ (view h g ins reps Q (take at T) w) = subst (If (Goes (tableOf g) ways ins reps legal 0 σ)) d (all-walked (tableOf g) ways ins reps legal σ (entriesOf S at count) inside′) (begins-fine g dumps ins reps minimise legal ss R (take at S) listed front) in
+      let x : Walked (tableOf g) ways ins reps legal 0 σ (view h g ins reps Q (take at T) w) = subst (If (Goes (tableOf g) ways ins reps legal 0 σ)) d (all-walked (tableOf g) ways ins reps legal σ (entriesOf S at count) inside′) (begins-fine g dumps ins reps mode reserve legal ss R (take at S) listed front) in
       let y = rw (table-length g) at (x .asks) in
       omega (arith, y, firsts-length (w .asked) (questionOf (countOf g) (take at T)), firsts-length 0 (questionOf (countOf g) (take at S)), unpaid-most 3 (countOf g) (markOf (countOf g) (take at S)))

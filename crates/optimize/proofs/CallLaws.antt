@@ -38,7 +38,7 @@ module _ (ws : List ℕ) (from to : ℕ) where
       ∙ sym (take-all (to - from) (drop from ws) (omega (arith, length-drop from ws)))
 
 -- ---- the same over the parts that the words of a call name
-pub retained-by : (h : List Held) (g inputs reps reps′ R S : List ℕ) (r : Retained) (dumps : List ℕ) (m : Bool) (how : Judging) (place : ℕ) (Q T : List ℕ) (w : Walk) (c : ℕ) → reps ≡ reps′
+pub retained-by : (h : List Held) (g inputs reps reps′ R S : List ℕ) (r : Retained) (dumps : List ℕ) (m : Mode) (how : Judging) (place : ℕ) (Q T : List ℕ) (w : Walk) (c : ℕ) → reps ≡ reps′
     → retainedOf h g inputs reps r R S ≡ badRule g (waysIn dumps m reps) how place (view h g inputs reps Q T w) c
     → retainedOf h g inputs reps′ r R S ≡ badRule g (waysIn dumps m reps′) how place (view h g inputs reps′ Q T w) c
 retained-by h g inputs reps reps′ R S r dumps m how place Q T w c e o =

@@ -11,6 +11,7 @@ use lib.ListN.{length, getD, take, drop, set, length-drop, drop-of-length-le}
 use lib.Dec.{eqb}
 use lib.Seq.{getD-set-other, getD-take, getD-drop, drop-set-add, take-suc-set, drop-drop, drop-cons, length-take-le}
 use borrow.Author.Tests.{eq-eqb, ne-eqb}
+use Rattle.rules.specs.Model.{Mode}
 use Rattle.rules.specs.Lists.{All}
 use Rattle.rules.specs.Refusal.{Out, refused, done, _>>=_}
 use Rattle.rules.specs.Table.{Next, Node, nodeAt, kindOf}
@@ -232,12 +233,12 @@ unfolding walkedOf
 visits-end g inputs replies ways σ₀ E R S w i h l e = sym (e ∙ visited-all g ways (view h g inputs replies R S w) (drop i E) (drop-of-length-le E {i = i} l))
 
 -- a done visit leaves the buffers laid
-pub laid-visited : (g dumps inputs replies : List ℕ) (minimise : Bool) (R S Q T : List ℕ) (w w′ : Walk) (k a : ℕ) (r : Visited) (l : Laid g dumps inputs replies minimise R S w) → k < countOf g
-    → ((h : List Held) (f : ℕ) → k + 1 ≤ f → Meets g inputs replies r Q T (visitOf g (waysIn dumps minimise replies) f (view h g inputs replies R S w) k)) → r ≡ Visited.Done w′ a
-    → length Q ≡ length R → length T ≡ length S → Laid g dumps inputs replies minimise Q T w′
-laid-visited g dumps inputs replies minimise R S Q T w w′ k a r l i v e p q =
+pub laid-visited : (g dumps inputs replies : List ℕ) (mode : Mode) (reserve : ℕ) (R S Q T : List ℕ) (w w′ : Walk) (k a : ℕ) (r : Visited) (l : Laid g dumps inputs replies mode reserve R S w) → k < countOf g
+    → ((h : List Held) (f : ℕ) → k + 1 ≤ f → Meets g inputs replies r Q T (visitOf g (waysIn dumps mode replies) f (view h g inputs replies R S w) k)) → r ≡ Visited.Done w′ a
+    → length Q ≡ length R → length T ≡ length S → Laid g dumps inputs replies mode reserve Q T w′
+laid-visited g dumps inputs replies mode reserve R S Q T w w′ k a r l i v e p q =
     let z = v (l .held) (k + 1) (omega arith) in
-    laid-on g dumps inputs replies minimise R S Q T w w′ (k + 1) k a (z .0) l i (came-done g inputs replies Q T r (visitOf g (waysIn dumps minimise replies) (k + 1) (view (l .held) g inputs replies R S w) k) z w′ a e) p q
+    laid-on g dumps inputs replies mode reserve R S Q T w w′ (k + 1) k a (z .0) l i (came-done g inputs replies Q T r (visitOf g (waysIn dumps mode replies) (k + 1) (view (l .held) g inputs replies R S w) k) z w′ a e) p q
 
 pub done-walk : (v w : Walk) → Walked.Done v ≡ Walked.Done w → v ≡ w
 done-walk v w e = cc

@@ -42,7 +42,7 @@ use Rattle.optimize.specs.declared.walk.Optimized.{Optimized}
 use Rattle.optimize.specs.Bounds.{countOf}
 use Rattle.rules.specs.Sections.{wordOf}
 use Rattle.optimize.specs.ResultView.{KindsKnown}
-use Rattle.optimize.specs.Runs.{Ends, Runs, modeIn}
+use Rattle.optimize.specs.Runs.{Ends, Runs}
 use Rattle.optimize.specs.CallWords.{between}
 use Rattle.optimize.specs.Entries.{answered, inputsEnd, repliesEnd, resultLeft, InOrder, partOf, modelParts, RunnableParts}
 use Rattle.optimize.proofs.Given.{count-is, table-is, part-is}
@@ -155,12 +155,8 @@ well-formed withInput names S h =
     accepted (length names) (S .rows) (dump names) (S .sequentials) (S .initial) (S .later) (S .inputs) [] (judged-as-given withInput names S ∙ h) .model
 
 -- the mode by its three bits
-pub run-mode : (m : Model) (mode room : ℕ) (r : Optimized) (Q : List ℕ) (terminate oneQuery minimise : Bool)
-    → terminate ≡ adds mode 2 → oneQuery ≡ adds mode 4 → minimise ≡ adds mode 1
-    → Runs m (modeIn minimise terminate oneQuery) room r Q → Runs m (modeOf mode) room r Q
-run-mode m mode room r Q terminate oneQuery minimise a b c h =
-    let same : modeIn minimise terminate oneQuery ≡ modeOf mode = cc in
-    subst (λ (how : Mode). Runs m how room r Q) same h
+pub run-mode : (m : Model) (mode word room : ℕ) (r : Optimized) (Q : List ℕ) → word ≡ mode → Runs m (modeOf word) room r Q → Runs m (modeOf mode) room r Q
+run-mode m mode word room r Q e h = subst (λ (x : ℕ). Runs m (modeOf x) room r Q) e h
 
 pub scratch-left : (e : Entry) (call : Call) (n : ℕ) → n ≡ call .scratchRoom → replicate n 0 ≡ left house e call .scratch
 unfolding left

@@ -11,6 +11,8 @@ use lib.Dec.{eqb}
 use lib.Seq.{drop-cons}
 use borrow.Author.Tests.{eq-eqb, ne-eqb}
 use Rattle.btor.specs.Operators.{rust}
+use Rattle.rules.specs.Model.{Mode}
+use Rattle.rules.specs.Limits.{modeOf}
 use Rattle.rules.specs.Refusal.{Out, done, refuse}
 use Rattle.rules.specs.Table.{Kind, fits}
 use Rattle.rules.specs.Walk.{St, Held, setInputs, addHeld, addTally}
@@ -83,9 +85,9 @@ module _ (h : List Held) (g inputs replies R S : List ℕ) (w : Walk) (ways : Wa
       rw e (sym (ap (λ z. elim z [ true ↦ forward (tableOf g) ways k σ x (constOf (σ .rows) y) | false ↦ foldedTwo g ways K σ k x y ]) r))
 
 -- ---- forwarding
-module _ (h : List Held) (g inputs replies dumps R S : List ℕ) (minimise : Bool) (w : Walk) (k m : ℕ) where
+module _ (h : List Held) (g inputs replies dumps R S : List ℕ) (word : ℕ) (w : Walk) (k m : ℕ) where
   abbrev ways : Ways
-  ways = waysIn dumps minimise replies
+  ways = waysIn dumps (modeOf word) replies
 
   pub forward-none : (c : Constant) → c ≡ Constant.None
       → settle (tableOf g) ways k (view h g inputs replies R S w) stays ≡ forward (tableOf g) ways k (view h g inputs replies R S w) m (constantIs c)
@@ -177,8 +179,8 @@ module _ (g : List ℕ) (ways : Ways) (k : ℕ) (σ : St) (x y z : ℕ) (m : way
   ite-other d s = ite-asks (done (σ, stays)) (rw (ne-eqb (wordOf g k 1) 1 d, ne-eqb (wordOf g k 1) 2 s))
 
 -- ---- over the parts that the words of a call name
-module _ (h : List Held) (g inputs dumps reps reps′ R S : List ℕ) (w : Walk) (m : Bool) (k : ℕ) (r : Visited) (R′ S′ : List ℕ) (e : reps ≡ reps′) where
-  pub finish-by : (F : Fold) (b : Bool) → isStays F ≡ true → m ≡ true → b ≡ true
+module _ (h : List Held) (g inputs dumps reps reps′ R S : List ℕ) (w : Walk) (m : Mode) (k : ℕ) (r : Visited) (R′ S′ : List ℕ) (e : reps ≡ reps′) where
+  pub finish-by : (F : Fold) (b : Bool) → isStays F ≡ true → m .minimise ≡ true → b ≡ true
       → outcomeOf h g inputs reps r R′ S′ ≡ settleThen g (waysIn dumps m reps) k (askBit (length reps) (countOf g) k quiet (view h g inputs reps R S w))
       → outcomeOf h g inputs reps′ r R′ S′ ≡ finish (tableOf g) (waysIn dumps m reps′) k (view h g inputs reps′ R S w) F (bitOf g (waysIn dumps m reps′) k b)
   finish-by F b i j d o =

@@ -6,6 +6,7 @@ use mathlib.Core.Bool.{Bool, true, false, cond}
 use mathlib.Core.List.{List, [], _∷_}
 use native.Mathlib.Omega.{arith}
 use lib.Dec.{eqb}
+use Rattle.rules.specs.Limits.{modeOf}
 use Rattle.rules.specs.Refusal.{Out, refused, done, _>>=_}
 use Rattle.rules.specs.Lists.{All}
 use Rattle.rules.specs.Table.{Kind, Const, Read, Write, Word, Ult, Ext, Ite, Eq, And, Or, Not, State, Next, Input, Bad, Node, kindOf, operandsAs}
@@ -32,9 +33,9 @@ bind-same (refused z) f k h = refl
 bind-same (done x) f k h = h x
 
 -- ---- process by form
-module _ (g dumps replies : List ℕ) (minimise : Bool) (vis : St → ℕ → Out (St × ℕ)) (σ : St) (k : ℕ) where
+module _ (g dumps replies : List ℕ) (word : ℕ) (vis : St → ℕ → Out (St × ℕ)) (σ : St) (k : ℕ) where
   abbrev ways : Ways
-  ways = waysIn dumps minimise replies
+  ways = waysIn dumps (modeOf word) replies
 
   abbrev byKind : Kind → Out (St × ℕ)
   byKind K = process (tableOf g) ways vis K σ k (nodeOf g k)

@@ -7,6 +7,7 @@ use mathlib.Core.List.{List}
 use native.Mathlib.Omega.{arith}
 use lib.ListN.{length}
 use lib.Dec.{eqb}
+use Rattle.rules.specs.Model.{Mode}
 use Rattle.rules.specs.Lists.{put}
 use Rattle.rules.specs.Refusal.{done}
 use Rattle.rules.specs.Check.{knownSort}
@@ -42,7 +43,7 @@ unpaid-fresh w (suc c) f k l e =
     let d : due (w c) (f c) ≡ w k = ap (λ z. due (w z) (f z)) q ∙ ap (due (w k)) e in
     omega arith)
 
-module _ (g dumps inputs replies : List ℕ) (minimise : Bool) (R S : List ℕ) (w : Walk) (l : Laid g dumps inputs replies minimise R S w) where
+module _ (g dumps inputs replies : List ℕ) (mode : Mode) (reserve : ℕ) (R S : List ℕ) (w : Walk) (l : Laid g dumps inputs replies mode reserve R S w) where
   passed-small : w .passed ≤ w .looked
   unfolding view
   passed-small = l .fine .fair
@@ -112,10 +113,10 @@ falls-row h g inputs replies R Q S w k x y c K e d v p =
     }
 
 -- ---- from one call to the next
-module _ (g dumps inputs replies : List ℕ) (minimise : Bool) (R S Q T : List ℕ) (w w′ : Walk) (f k a : ℕ) (h′ : List Held) (l : Laid g dumps inputs replies minimise R S w) (i : k < countOf g)
-    (e : visitOf g (waysIn dumps minimise replies) f (view (l .held) g inputs replies R S w) k ≡ done (view h′ g inputs replies Q T w′, a)) where
+module _ (g dumps inputs replies : List ℕ) (mode : Mode) (reserve : ℕ) (R S Q T : List ℕ) (w w′ : Walk) (f k a : ℕ) (h′ : List Held) (l : Laid g dumps inputs replies mode reserve R S w) (i : k < countOf g)
+    (e : visitOf g (waysIn dumps mode replies) f (view (l .held) g inputs replies R S w) k ≡ done (view h′ g inputs replies Q T w′, a)) where
   abbrev ways : Ways
-  ways = waysIn dumps minimise replies
+  ways = waysIn dumps mode replies
 
   came : Visited (tableOf g) ways inputs replies k (view (l .held) g inputs replies R S w) (view h′ g inputs replies Q T w′, a)
   came =
@@ -143,7 +144,7 @@ module _ (g dumps inputs replies : List ℕ) (minimise : Bool) (R S Q T : List �
       let q : (m : ℕ → Mark) → unpaid (fee (tableOf g)) (length (tableOf g)) m ≡ unpaid (fee (tableOf g)) (countOf g) m = λ m. ap (λ n. unpaid (fee (tableOf g)) n m) (table-length g) in
       omega (arith, s, q (markOf (countOf g) T), q (markOf (countOf g) S))
 
-  pub laid-on : length Q ≡ length R → length T ≡ length S → Laid g dumps inputs replies minimise Q T w′
+  pub laid-on : length Q ≡ length R → length T ≡ length S → Laid g dumps inputs replies mode reserve Q T w′
   laid-on p q =
       record {
         legal = l .legal;
@@ -158,35 +159,35 @@ module _ (g dumps inputs replies : List ℕ) (minimise : Bool) (R S Q T : List �
       }
 
 -- ---- ready at a fresh node
-pub record Ready (g dumps inputs replies : List ℕ) (minimise : Bool) (R S : List ℕ) (w : Walk) (n : ℕ) : Type 0 where
-  pub laid : Laid g dumps inputs replies minimise R S w
+pub record Ready (g dumps inputs replies : List ℕ) (mode : Mode) (reserve : ℕ) (R S : List ℕ) (w : Walk) (n : ℕ) : Type 0 where
+  pub laid : Laid g dumps inputs replies mode reserve R S w
   pub inside : n < countOf g
   pub fresh : markOf (countOf g) S n ≡ fresh
 
-module _ (g dumps inputs replies : List ℕ) (minimise : Bool) (R S : List ℕ) (w : Walk) (n : ℕ) where
-  pub ready : Laid g dumps inputs replies minimise R S w → n < countOf g → markOf (countOf g) S n ≡ fresh → Ready g dumps inputs replies minimise R S w n
+module _ (g dumps inputs replies : List ℕ) (mode : Mode) (reserve : ℕ) (R S : List ℕ) (w : Walk) (n : ℕ) where
+  pub ready : Laid g dumps inputs replies mode reserve R S w → n < countOf g → markOf (countOf g) S n ≡ fresh → Ready g dumps inputs replies mode reserve R S w n
   ready l i e = record { laid = l; inside = i; fresh = e }
 
-  pub ready-room : Ready g dumps inputs replies minimise R S w n → Room g R S w n
-  ready-room r = roomy g dumps inputs replies minimise R S w (r .laid) n (r .inside) (r .fresh)
+  pub ready-room : Ready g dumps inputs replies mode reserve R S w n → Room g R S w n
+  ready-room r = roomy g dumps inputs replies mode reserve R S w (r .laid) n (r .inside) (r .fresh)
 
-  pub ready-falls : Ready g dumps inputs replies minimise R S w n → Falls (countOf g) (w .made) R
-  ready-falls r = falls g dumps inputs replies minimise R S w (r .laid)
+  pub ready-falls : Ready g dumps inputs replies mode reserve R S w n → Falls (countOf g) (w .made) R
+  ready-falls r = falls g dumps inputs replies mode reserve R S w (r .laid)
 
-  pub ready-kept : Ready g dumps inputs replies minimise R S w n → RowKept g R n
-  ready-kept r = row-kept g dumps inputs replies minimise R S w (r .laid) n (r .inside)
+  pub ready-kept : Ready g dumps inputs replies mode reserve R S w n → RowKept g R n
+  ready-kept r = row-kept g dumps inputs replies mode reserve R S w (r .laid) n (r .inside)
 
   -- a visit of a node below n that is done leaves n ready
-  pub ready-on : (Q T : List ℕ) (w′ : Walk) (k a : ℕ) (v : Answer.Visited) → Ready g dumps inputs replies minimise R S w n → k < n
-      → Visits g inputs replies R S w v Q T (k + 1) (λ f σ. visitOf g (waysIn dumps minimise replies) f σ k) → v ≡ Answer.Visited.Done w′ a
-      → length Q ≡ length R → length T ≡ length S → Ready g dumps inputs replies minimise Q T w′ n
+  pub ready-on : (Q T : List ℕ) (w′ : Walk) (k a : ℕ) (v : Answer.Visited) → Ready g dumps inputs replies mode reserve R S w n → k < n
+      → Visits g inputs replies R S w v Q T (k + 1) (λ f σ. visitOf g (waysIn dumps mode replies) f σ k) → v ≡ Answer.Visited.Done w′ a
+      → length Q ≡ length R → length T ≡ length S → Ready g dumps inputs replies mode reserve Q T w′ n
   ready-on Q T w′ k a v r b m e p q =
       let h = r .laid .held in
       let z = m h (k + 1) (omega arith) in
       let i : k < countOf g = omega (arith, r .inside) in
-      let d = came-done g inputs replies Q T v (visitOf g (waysIn dumps minimise replies) (k + 1) (view h g inputs replies R S w) k) z w′ a e in
+      let d = came-done g inputs replies Q T v (visitOf g (waysIn dumps mode replies) (k + 1) (view h g inputs replies R S w) k) z w′ a e in
       record {
-        laid = laid-on g dumps inputs replies minimise R S Q T w w′ (k + 1) k a (z .0) (r .laid) i d p q;
+        laid = laid-on g dumps inputs replies mode reserve R S Q T w w′ (k + 1) k a (z .0) (r .laid) i d p q;
         inside = r .inside;
-        fresh = still g dumps inputs replies minimise R S Q T w w′ (k + 1) k a (z .0) (r .laid) i d n b ∙ r .fresh;
+        fresh = still g dumps inputs replies mode reserve R S Q T w w′ (k + 1) k a (z .0) (r .laid) i d n b ∙ r .fresh;
       }

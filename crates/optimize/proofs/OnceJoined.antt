@@ -31,7 +31,7 @@ use Rattle.optimize.specs.Laid.{Laid}
 use Rattle.optimize.specs.Bads.{Spare}
 use Rattle.optimize.specs.LastQuestion.{answeredOf, withoutBads, forgotten, unnamed}
 use Rattle.optimize.specs.Ending.{Ended}
-use Rattle.optimize.specs.Runs.{modelIn, modeIn, Underway, Ends}
+use Rattle.optimize.specs.Runs.{modelIn, Underway, Ends}
 use Rattle.optimize.proofs.Steps.{table-length}
 use Rattle.optimize.proofs.Views.{firsts-length}
 use Rattle.optimize.proofs.Begun.{view-front}
@@ -43,7 +43,7 @@ use Rattle.optimize.proofs.Entries.{same-entry}
 use Rattle.optimize.proofs.Copied.{copied-length, copied-before, copied-entries, view-before}
 
 -- ---- a bound over the words before a place
-pub spare-place : (g S : List ℕ) (w : Walk) (at c : ℕ) → Spare g (take at S) w (c + 1) → 2 * countOf g + 4 * (w .asked + 1) ≤ at
+pub spare-place : (g S : List ℕ) (w : Walk) (at c : ℕ) → Spare 0 g (take at S) w (c + 1) → 2 * countOf g + 4 * (w .asked + 1) ≤ at
 spare-place g S w at c h = omega (arith, h, length-take at S)
 
 pub before-place : (S : List ℕ) (at x : ℕ) → x ≤ length (take at S) → x ≤ at
@@ -93,18 +93,18 @@ module _ (m : Model) (how : Mode) (σ : St) (seqs : List ℕ) where
       → foldBads m how true σ seqs ≡ done (record { state = τ; sequentials = seqs; initial = i .stay; later = m .later; dropped = i .dropped; verdict = v })
   last-asked i τ v e d = once-is ∙ ap (λ (o : Out Bads). o >>= after-bads) e ∙ ap (λ (o : Out (St × ℕ)). o >>= λ p. done (record { state = p .0; sequentials = seqs; initial = i .stay; later = m .later; dropped = i .dropped; verdict = p .1 })) d
 
-module _ (g dumps ss initial later ins reps : List ℕ) (minimise : Bool) (R S : List ℕ) (w : Walk) (at count : ℕ) (u : Underway g dumps ss initial later ins reps minimise R S w at count) (terminate : Bool) where
+module _ (g dumps ss initial later ins reps : List ℕ) (mode : Mode) (R S : List ℕ) (w : Walk) (at count : ℕ) (u : Underway g dumps ss initial later ins reps mode R S w at count) where
   abbrev m : Model
   m = modelIn g dumps ss initial later ins reps
 
   abbrev how : Mode
-  how = modeIn minimise terminate true
+  how = mode
 
   -- after the last question: what was made, and how many questions were asked
-  module _ (Q S₁ S₂ : List ℕ) (w₁ v : Walk) (verdict : ℕ) (es : List ℕ) (laid : Laid g dumps ins reps minimise Q (take at S₁) w₁) (spare : Spare g (take at S₁) w₁ (length later + 1))
+  module _ (Q S₁ S₂ : List ℕ) (w₁ v : Walk) (verdict : ℕ) (es : List ℕ) (laid : Laid g dumps ins reps mode 0 Q (take at S₁) w₁) (spare : Spare 0 g (take at S₁) w₁ (length later + 1))
       (l : Last (lastQuestion m how (view (laid .held) g ins reps Q (take at S₁) w₁) es) (view (laid .held) g ins reps Q (take at S₂) v) verdict) where
-    walked : Walked (tableOf g) (waysIn dumps minimise reps) ins reps (laid .legal) 1 (view (laid .held) g ins reps Q (take at S₁) w₁) (l .state)
-    walked = subst (If (λ p. Goes (tableOf g) (waysIn dumps minimise reps) ins reps (laid .legal) 1 (view (laid .held) g ins reps Q (take at S₁) w₁) (p .0))) (l .asked) (last-walked m how (laid .legal) (view (laid .held) g ins reps Q (take at S₁) w₁) es) (laid .fine)
+    walked : Walked (tableOf g) (waysIn dumps mode reps) ins reps (laid .legal) 1 (view (laid .held) g ins reps Q (take at S₁) w₁) (l .state)
+    walked = subst (If (λ p. Goes (tableOf g) (waysIn dumps mode reps) ins reps (laid .legal) 1 (view (laid .held) g ins reps Q (take at S₁) w₁) (p .0))) (l .asked) (last-walked m how (laid .legal) (view (laid .held) g ins reps Q (take at S₁) w₁) es) (laid .fine)
 
     same-made : l .state .made ≡ v .made
     unfolding view
@@ -127,7 +127,7 @@ module _ (g dumps ss initial later ins reps : List ℕ) (minimise : Bool) (R S :
         omega (arith, y, spare, same-asked, firsts-length (w₁ .asked) (questionOf (countOf g) (take at S₁)))
 
   -- what a run under one-query leaves at its end
-  pub once-ended : (Q T : List ℕ) (v : Walk) (k : Kept) (S₁ : List ℕ) (w₁ : Walk) → length Q ≡ length R → length T ≡ length S → Laid g dumps ins reps minimise Q (take at S₁) w₁ → v .made ≤ countOf g → 2 * countOf g + 4 * v .asked ≤ length (take at S₁)
+  pub once-ended : (Q T : List ℕ) (v : Walk) (k : Kept) (S₁ : List ℕ) (w₁ : Walk) → length Q ≡ length R → length T ≡ length S → Laid g dumps ins reps mode 0 Q (take at S₁) w₁ → v .made ≤ countOf g → 2 * countOf g + 4 * v .asked ≤ length (take at S₁)
       → k .sequentials ≤ length ss → k .initial ≤ length initial → k .later ≤ length later → Ended g ins Q T v k (record { sequentials = length ss; initial = length initial; later = length later })
   once-ended Q T v k S₁ w₁ p q laid made asks a b c =
       record {
@@ -141,7 +141,7 @@ module _ (g dumps ss initial later ins reps : List ℕ) (minimise : Bool) (R S :
         sequentials = a;
         initial = b;
         later = c;
-        known = codes-known g dumps ins reps minimise Q (take at S₁) w₁ laid;
+        known = codes-known g dumps ins reps mode 0 Q (take at S₁) w₁ laid;
       }
 
   module _ (σ : St) where
@@ -162,7 +162,7 @@ module _ (g dumps ss initial later ins reps : List ℕ) (minimise : Bool) (R S :
       T = paste S₂ third (drop 0 later) (length later)
 
       fits : third + length later ≤ length S₂
-      fits = omega (arith, lists-fit g dumps ss initial later ins reps minimise R S w at count u)
+      fits = omega (arith, lists-fit g dumps ss initial later ins reps mode R S w at count u)
 
       pub once-length : length T ≡ length S
       once-length = copied-length S₂ later third fits ∙ q
@@ -187,7 +187,7 @@ module _ (g dumps ss initial later ins reps : List ℕ) (minimise : Bool) (R S :
           let x : Bads = record { after = view h₁ g ins reps Q (take at S₁) w₁; stay = entriesOf S₁ (at + length ss) i; dropped = d₁ } in
           let f : Folded = record { state = l .state; sequentials = entriesOf S at count; initial = x .stay; later = later; dropped = d₁; verdict = verdict } in
           let fewer = u .fewer in
-          let fit = lists-fit g dumps ss initial later ins reps minimise R S w at count u in
+          let fit = lists-fit g dumps ss initial later ins reps mode R S w at count u in
           let first : entriesOf S at count ≡ entriesOf T at count = sym (entries-still S T at count (omega (arith, fit)) (omega (arith, fit, once-length)) (λ j l n. word j l (omega arith) ∙ a j l (omega arith))) in
           let second : entriesOf S₁ (at + length ss) i ≡ entriesOf T (at + length ss) i = sym (entries-still S₁ T (at + length ss) i (omega (arith, fit)) (omega (arith, fit, once-length)) (λ j l n. word j (omega arith) (omega arith))) in
           let bare : bareFolded f ≡ record { state = view h₁ g ins reps Q (take at T) v; sequentials = entriesOf S at count; initial = x .stay; later = later; dropped = d₁; verdict = verdict } = ap (λ (τ : St). record { state = τ; sequentials = entriesOf S at count; initial = x .stay; later = later; dropped = d₁; verdict = verdict }) (state-same (l .state) (l .same)) in

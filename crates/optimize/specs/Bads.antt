@@ -1,5 +1,5 @@
 -- Judging a list of bads: the rules' steps in the code's order, and what its answers are in the rules' terms.
---     Spare                 room for so many more questions than the nodes may ask
+--     Spare                 room for so many more questions than the nodes may ask, and for the words in reserve
 --     retainRule, listRule  the rules' judgement of a bad, of a list           retainedOf, judgedOf   the outcomes
 --     BadsLeft              what a judged list leaves for what comes next
 -- Assumes nothing.
@@ -8,6 +8,7 @@ use mathlib.Core.Path.{_≡_}
 use mathlib.Core.Bool.{Bool, true, false, cond}
 use mathlib.Core.List.{List, [], _∷_, _++_}
 use lib.ListN.{length, getD, take}
+use Rattle.rules.specs.Model.{Mode}
 use Rattle.rules.specs.Refusal.{Out, refused, done, _>>=_}
 use Rattle.rules.specs.Room.{unpaid}
 use Rattle.rules.specs.Walk.{St, Held}
@@ -25,8 +26,8 @@ use Rattle.optimize.specs.View.{tableOf, markOf, view}
 use Rattle.optimize.specs.Laid.{Laid}
 use Rattle.optimize.specs.Lists.{entriesOf}
 
-abbrev pub Spare : List ℕ → List ℕ → Walk → ℕ → Type 0
-Spare g S w c = 2 * countOf g + 4 * (w .asked + unpaid (λ k. 3) (countOf g) (markOf (countOf g) S) + c) ≤ length S
+abbrev pub Spare : ℕ → List ℕ → List ℕ → Walk → ℕ → Type 0
+Spare reserve g S w c = 2 * countOf g + 4 * (w .asked + unpaid (λ k. 3) (countOf g) (markOf (countOf g) S) + c) + reserve ≤ length S
 
 abbrev pub judgement : Bool → Judgement
 judgement true = whole.stay
@@ -64,8 +65,8 @@ judgedOf h dropped g inputs replies (Judged.Done w kept) R S at list = done (rec
 judgedOf h dropped g inputs replies (Judged.Refused r) R S at list = refused (refusalOf r)
 
 -- the buffers are laid, a question for each of n entries may be spent, and the words between the walk's and the list stay
-pub record BadsLeft (g dumps inputs replies : List ℕ) (minimise : Bool) (n : ℕ) (S₀ : List ℕ) (w₀ : Walk) (r : Judged) (R S : List ℕ) (at list : ℕ) : Type 0 where
-  pub laid : (w : Walk) (kept : ℕ) → r ≡ Judged.Done w kept → Laid g dumps inputs replies minimise R (take at S) w
+pub record BadsLeft (g dumps inputs replies : List ℕ) (mode : Mode) (reserve n : ℕ) (S₀ : List ℕ) (w₀ : Walk) (r : Judged) (R S : List ℕ) (at list : ℕ) : Type 0 where
+  pub laid : (w : Walk) (kept : ℕ) → r ≡ Judged.Done w kept → Laid g dumps inputs replies mode reserve R (take at S) w
   pub few : (w : Walk) (kept : ℕ) → r ≡ Judged.Done w kept → kept ≤ n
-  pub spare : (w : Walk) (kept c : ℕ) → r ≡ Judged.Done w kept → Spare g (take at S₀) w₀ (n + c) → Spare g (take at S) w c
+  pub spare : (w : Walk) (kept c : ℕ) → r ≡ Judged.Done w kept → Spare reserve g (take at S₀) w₀ (n + c) → Spare reserve g (take at S) w c
   pub still : (i : ℕ) → at ≤ i → i < list → getD S i 0 ≡ getD S₀ i 0

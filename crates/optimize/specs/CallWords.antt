@@ -1,12 +1,12 @@
--- What a call fixes, as five words that visits are lent: where its inputs start and end among the given words, where its replies do, and 1 where
--- it minimises.
---     inputsIn, repliesIn, minimiseIn   what the words say        LaidBy, VisitsBy, waysBy   the walk over what they say
+-- What a call fixes, as five words that visits are lent: where its inputs start and end among the given words, where its replies do, and
+-- its mode.
+--     inputsIn, repliesIn, modeIn       what the words say        LaidBy, VisitsBy, waysBy   the walk over what they say
 -- Assumes nothing.
 use Prim.Native.Nat.{ℕ, _-_}
-use mathlib.Core.Bool.{Bool}
 use mathlib.Core.List.{List}
 use lib.ListN.{getD, take, drop}
-use lib.Dec.{eqb}
+use Rattle.rules.specs.Limits.{modeOf}
+use Rattle.rules.specs.Model.{Mode}
 use Rattle.rules.specs.Refusal.{Out}
 use Rattle.rules.specs.Walk.{St}
 use Rattle.rules.specs.Visit.{Ways}
@@ -25,14 +25,14 @@ inputsIn g C = between g (getD C 0 0) (getD C 1 0)
 unfoldable pub repliesIn : List ℕ → List ℕ → List ℕ
 repliesIn g C = between g (getD C 2 0) (getD C 3 0)
 
-abbrev pub minimiseIn : List ℕ → Bool
-minimiseIn C = eqb (getD C 4 0) 1
+abbrev pub modeIn : List ℕ → Mode
+modeIn C = modeOf (getD C 4 0)
 
 abbrev pub waysBy : List ℕ → List ℕ → List ℕ → Ways
-waysBy g dumps C = waysIn dumps (minimiseIn C) (repliesIn g C)
+waysBy g dumps C = waysIn dumps (modeIn C) (repliesIn g C)
 
 abbrev pub LaidBy : List ℕ → List ℕ → List ℕ → List ℕ → List ℕ → Walk → Type 0
-LaidBy g dumps C R S w = Laid g dumps (inputsIn g C) (repliesIn g C) (minimiseIn C) R S w
+LaidBy g dumps C R S w = Laid g dumps (inputsIn g C) (repliesIn g C) (modeIn C) 0 R S w
 
 abbrev pub VisitsBy : List ℕ → List ℕ → List ℕ → List ℕ → Walk → Visited → List ℕ → List ℕ → ℕ → (ℕ → St → Out (St × ℕ)) → Type 0
 VisitsBy g C R S w r R′ S′ least rule = Visits g (inputsIn g C) (repliesIn g C) R S w r R′ S′ least rule

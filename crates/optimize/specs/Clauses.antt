@@ -17,7 +17,7 @@ use Rattle.rules.specs.Table.{with}
 use Rattle.rules.specs.Model.{Model, Mode}
 use Rattle.rules.specs.Walk.{St, Held, setRow, setMark, addConst, start}
 use Rattle.rules.specs.Fold.{Fold}
-use Rattle.rules.specs.Visit.{Ways, forward}
+use Rattle.rules.specs.Visit.{Ways}
 use Rattle.rules.specs.Whole.{judgeSequentials, visitAll, foldBads}
 use Rattle.rules.specs.Whole as whole
 use Rattle.rules.specs.Result.{resultWords}
@@ -25,7 +25,6 @@ use Rattle.optimize.specs.declared.walk.Walk.{Walk}
 use Rattle.optimize.specs.declared.walk.Visited.{Visited}
 use Rattle.optimize.specs.declared.walk.Walked.{Walked}
 use Rattle.optimize.specs.declared.walk.Optimized.{Optimized}
-use Rattle.optimize.specs.declared.fold.Constant.{Constant}
 use Rattle.optimize.specs.declared.fold.Folded.{Folded}
 use Rattle.optimize.specs.declared.smt_solver.Asked.{Asked}
 use Rattle.optimize.specs.declared.bads.Judging.{Judging}
@@ -35,15 +34,15 @@ use Rattle.optimize.specs.declared.last_question.Answered.{Answered}
 use Rattle.optimize.specs.declared.result.Kept.{Kept}
 use Rattle.optimize.specs.declared.result.Sizes.{Sizes}
 use Rattle.optimize.specs.Bounds.{countOf}
-use Rattle.optimize.specs.View.{constantIs, nodeOf, markBy, view, outcomeOf, tableOf, waysIn, Meets}
+use Rattle.optimize.specs.View.{nodeOf, markBy, view, outcomeOf, tableOf, waysIn, Meets}
 use Rattle.optimize.specs.Counters.{walkIn, answerIn}
 use Rattle.optimize.specs.Process.{askedOf, askedBy, solvedOf, settleThen, takeOf, visitOf}
-use Rattle.optimize.specs.CallWords.{inputsIn, repliesIn, minimiseIn, waysBy, LaidBy, VisitsBy}
+use Rattle.optimize.specs.CallWords.{inputsIn, repliesIn, modeIn, waysBy, LaidBy, VisitsBy}
 use Rattle.optimize.specs.Lists.{entriesOf, joined, WalksTo, LaidAfter}
 use Rattle.optimize.specs.Bads.{retainedOf, judgedOf, replyRule, badRule, retainRule, listRule, Retains, BadsLeft}
 use Rattle.optimize.specs.LastQuestion.{answeredOf, verdictThen, forgotten}
 use Rattle.optimize.specs.ResultView.{untouched, foldedIn, ModelOf, Wrote, Handed}
-use Rattle.optimize.specs.Runs.{modelIn, modeIn, Runnable, Underway, Ends, Runs}
+use Rattle.optimize.specs.Runs.{modelIn, Runnable, Underway, Ends, Runs}
 
 -- ---- one change of a buffer, in the state that lies in both
 module _ (given : Lent) where
@@ -82,16 +81,9 @@ module _ (given result scratch counters : Lent) (r : ℕ) where
   -- with the inputs that are lent
   abbrev pub Takes : Lent → Lent → ℕ → Type 0
   Takes inputs dumps node =
-      (h : List Held) (replies : List ℕ) (minimise : Bool)
+      (h : List Held) (replies : List ℕ) (mode : Mode)
       → Meets (was given) (was inputs) replies (answerIn r (ends counters)) (ends result) (ends scratch)
-      (takeOf (was given) (waysIn (was dumps) minimise replies) (view h (was given) (was inputs) replies (was result) (was scratch) (walkIn (was counters))) node)
-
-  -- a Read of a memory at an address, whatever else the call asks for
-  abbrev pub Forwards : ℕ → ℕ → Constant → Type 0
-  Forwards node memory address =
-      (h : List Held) (inputs replies dumps : List ℕ) (minimise : Bool)
-      → outcomeOf h (was given) inputs replies (answerIn r (ends counters)) (ends result) (ends scratch)
-      ≡ forward (tableOf (was given)) (waysIn dumps minimise replies) node (view h (was given) inputs replies (was result) (was scratch) (walkIn (was counters))) memory (constantIs address)
+      (takeOf (was given) (waysIn (was dumps) mode replies) (view h (was given) (was inputs) replies (was result) (was scratch) (walkIn (was counters))) node)
 
   -- with the replies that are lent: what the questions give is settled
   abbrev pub SettlesAsked : Lent → ℕ → (ℕ → ℕ → St → Out (St × Fold)) → Type 0
@@ -171,7 +163,7 @@ module _ (given dumps call result scratch : Lent) where
 
   abbrev pub StaysLaid : ℕ → Walked → Type 0
   StaysLaid at r =
-      LaidAfter (was given) (was dumps) (inputsIn (was given) (was call)) (repliesIn (was given) (was call)) (minimiseIn (was call)) r (ends result) (take at (ends scratch))
+      LaidAfter (was given) (was dumps) (inputsIn (was given) (was call)) (repliesIn (was given) (was call)) (modeIn (was call)) 0 r (ends result) (take at (ends scratch))
 
   -- of a bad, which is then judged
   abbrev pub RetainsBad : Judging → ℕ → Walk → Retained → ℕ → Type 0
@@ -195,7 +187,7 @@ module _ (given dumps call result scratch : Lent) where
 
   abbrev pub LeavesBads : Lent → ℕ → ℕ → Walk → Judged → Type 0
   LeavesBads bads at list w r =
-      BadsLeft (was given) (was dumps) (inputsIn (was given) (was call)) (repliesIn (was given) (was call)) (minimiseIn (was call)) (length (was bads)) (was scratch) w r (ends result) (ends scratch) at list
+      BadsLeft (was given) (was dumps) (inputsIn (was given) (was call)) (repliesIn (was given) (was call)) (modeIn (was call)) 0 (length (was bads)) (was scratch) w r (ends result) (ends scratch) at list
 
 -- ---- judging: a bad by the reply about it, and by its condition with the replies that are lent
 abbrev pub RepliesBy : Judging → ℕ → Walk → ℕ → Retained → Type 0
@@ -204,9 +196,9 @@ RepliesBy how place w reply r =
 
 abbrev pub JudgesBad : Lent → Lent → Lent → Lent → Judging → ℕ → Walk → ℕ → Retained → Type 0
 JudgesBad given replies result scratch how place w condition r =
-    (h : List Held) (inputs dumps : List ℕ) (minimise : Bool)
+    (h : List Held) (inputs dumps : List ℕ) (mode : Mode)
     → retainedOf h (was given) inputs (was replies) r (was result) (ends scratch)
-    ≡ badRule (was given) (waysIn dumps minimise (was replies)) how place (view h (was given) inputs (was replies) (was result) (was scratch) w) condition
+    ≡ badRule (was given) (waysIn dumps mode (was replies)) how place (view h (was given) inputs (was replies) (was result) (was scratch) w) condition
 
 -- the last question about the bads kept from `list` on
 abbrev pub AnswersLast : Lent → List ℕ → Lent → ℕ → ℕ → ℕ → Walk → Answered → Type 0
@@ -263,20 +255,20 @@ module _ (g dumps call ss initial later : List ℕ) where
   RunnableBy r s = Runnable g dumps ss initial later (inputsIn g call) (repliesIn g call) r s
 
   abbrev pub UnderwayBy : List ℕ → List ℕ → Walk → ℕ → ℕ → Type 0
-  UnderwayBy R S w at kept = Underway g dumps ss initial later (inputsIn g call) (repliesIn g call) (minimiseIn call) R S w at kept
+  UnderwayBy R S w at kept = Underway g dumps ss initial later (inputsIn g call) (repliesIn g call) (modeIn call) R S w at kept
 
 module _ (given dumps call ss initial later result scratch : Lent) where
   abbrev pub modelLent : Model
   modelLent = modelBy (was given) (was dumps) (was call) (was ss) (was initial) (was later)
 
   -- from the bads on; `once` under one-query
-  abbrev pub EndsBads : Bool → Bool → ℕ → ℕ → Walk → Optimized → Type 0
-  EndsBads terminate once at kept w r =
+  abbrev pub EndsBads : Bool → ℕ → ℕ → Walk → Optimized → Type 0
+  EndsBads once at kept w r =
       (h : List Held)
       → Ends modelLent
-      (foldBads modelLent (modeIn (minimiseIn (was call)) terminate once) once
+      (foldBads modelLent (modeIn (was call)) once
       (view h (was given) (inputsIn (was given) (was call)) (repliesIn (was given) (was call)) (was result) (take at (was scratch)) w) (entriesOf (was scratch) at kept))
       (length (was result)) r (ends result)
 
-  abbrev pub RunsWhole : Bool → Bool → Optimized → Type 0
-  RunsWhole terminate once r = Runs modelLent (modeIn (minimiseIn (was call)) terminate once) (length (was result)) r (ends result)
+  abbrev pub RunsWhole : Optimized → Type 0
+  RunsWhole r = Runs modelLent (modeIn (was call)) (length (was result)) r (ends result)

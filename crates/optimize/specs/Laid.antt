@@ -4,9 +4,9 @@
 --     Visits  what a visit leaves: the rules' outcome at every fuel above the node
 -- Assumes nothing.
 use Prim.Native.Nat.{ℕ, _+_, _*_, _<_, _≤_}
-use mathlib.Core.Bool.{Bool}
 use mathlib.Core.List.{List}
 use lib.ListN.{length}
+use Rattle.rules.specs.Model.{Mode}
 use Rattle.rules.specs.Refusal.{Out}
 use Rattle.rules.specs.Legal.{AllLegal}
 use Rattle.rules.specs.Walk.{St, Held}
@@ -18,16 +18,16 @@ use Rattle.optimize.specs.declared.walk.Visited.{Visited}
 use Rattle.optimize.specs.Bounds.{countOf, mostLooked, mostNodes, roomOf, rowsEnd}
 use Rattle.optimize.specs.View.{tableOf, waysIn, markOf, view, Meets}
 
--- held are the states that took an input
-pub record Laid (g dumps inputs replies : List ℕ) (minimise : Bool) (R S : List ℕ) (w : Walk) : Type 0 where
+-- held are the states that took an input; scratch keeps some words in reserve, behind the questions that may still be put
+pub record Laid (g dumps inputs replies : List ℕ) (mode : Mode) (reserve : ℕ) (R S : List ℕ) (w : Walk) : Type 0 where
   pub legal : AllLegal (tableOf g)
   pub small : countOf g ≤ mostNodes
   pub whole : rowsEnd (countOf g) ≤ length g
   pub room : roomOf (countOf g) ≤ length R
   pub held : List Held
-  pub fine : Fine (tableOf g) (waysIn dumps minimise replies) inputs replies (view held g inputs replies R S w)
+  pub fine : Fine (tableOf g) (waysIn dumps mode replies) inputs replies (view held g inputs replies R S w)
   pub few : w .made + unpaid (λ k. 1) (countOf g) (markOf (countOf g) S) ≤ countOf g
-  pub asks : 2 * countOf g + 4 * (w .asked + unpaid (λ k. 3) (countOf g) (markOf (countOf g) S)) ≤ length S
+  pub asks : 2 * countOf g + 4 * (w .asked + unpaid (λ k. 3) (countOf g) (markOf (countOf g) S)) + reserve ≤ length S
   pub looks : w .looked + unpaid (fee (tableOf g)) (countOf g) (markOf (countOf g) S) ≤ mostLooked
 
 pub record Room (g R S : List ℕ) (w : Walk) (k : ℕ) : Type 0 where

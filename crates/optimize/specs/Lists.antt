@@ -4,9 +4,9 @@
 -- Assumes nothing.
 use Prim.Native.Nat.{ℕ, _+_, _*_, _≤_}
 use mathlib.Core.Path.{_≡_}
-use mathlib.Core.Bool.{Bool}
 use mathlib.Core.List.{List, _++_}
 use lib.ListN.{length, take, drop}
+use Rattle.rules.specs.Model.{Mode}
 use Rattle.rules.specs.Refusal.{Out, refused, done}
 use Rattle.rules.specs.Legal.{AllLegal}
 use Rattle.rules.specs.Walk.{St, Held}
@@ -38,5 +38,5 @@ module _ (g inputs replies R S : List ℕ) (w : Walk) (r : Walked) (R′ S′ : 
   abbrev pub WalksTo : (St → Out St) → Type 0
   WalksTo rule = (h : List Held) → (h′ : List Held) × (walkedOf h′ g inputs replies r R′ S′ ≡ rule (view h g inputs replies R S w))
 
-abbrev pub LaidAfter : List ℕ → List ℕ → List ℕ → List ℕ → Bool → Walked → List ℕ → List ℕ → Type 0
-LaidAfter g dumps inputs replies minimise r R S = (w : Walk) → r ≡ Walked.Done w → Laid g dumps inputs replies minimise R S w
+abbrev pub LaidAfter : List ℕ → List ℕ → List ℕ → List ℕ → Mode → ℕ → Walked → List ℕ → List ℕ → Type 0
+LaidAfter g dumps inputs replies mode reserve r R S = (w : Walk) → r ≡ Walked.Done w → Laid g dumps inputs replies mode reserve R S w

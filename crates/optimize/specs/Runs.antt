@@ -4,11 +4,9 @@
 -- Assumes nothing.
 use Prim.Native.Nat.{ℕ, _+_, _*_, _≤_}
 use mathlib.Core.Path.{_≡_}
-use mathlib.Core.Bool.{Bool}
 use mathlib.Core.List.{List, flatten}
 use lib.ListN.{length, getD, take}
 use lib.Dec.{eqb}
-use Rattle.btor.specs.Operators.{rust}
 use Rattle.rules.specs.Refusal.{Out, refused, done}
 use Rattle.rules.specs.Limits.{need, house}
 use Rattle.rules.specs.Model.{Model, Mode}
@@ -36,9 +34,6 @@ modelIn g dumps sequentials initial later inputs replies =
       replies = replies;
     }
 
-abbrev pub modeIn : Bool → Bool → Bool → Mode
-modeIn minimise terminate oneQuery = record { terminate = terminate; oneQuery = oneQuery; minimise = minimise; reading = rust }
-
 -- a well-formed model in words that hold its table, and room for it in both buffers
 pub record Runnable (g dumps ss initial later ins reps : List ℕ) (r s : ℕ) : Type 0 where
   pub legal : WellFormed (modelIn g dumps ss initial later ins reps)
@@ -52,10 +47,10 @@ pub record Runnable (g dumps ss initial later ins reps : List ℕ) (r s : ℕ) :
   pub scratch : need (countOf g) (length ss) (length initial + length later) (length ins) ≤ s
 
 -- the kept sequentials stand in scratch from the place of the lists on and are visited; the bads are still to be judged
-pub record Underway (g dumps ss initial later ins reps : List ℕ) (minimise : Bool) (R S : List ℕ) (w : Walk) (at count : ℕ) : Type 0 where
+pub record Underway (g dumps ss initial later ins reps : List ℕ) (mode : Mode) (R S : List ℕ) (w : Walk) (at count : ℕ) : Type 0 where
   pub runnable : Runnable g dumps ss initial later ins reps (length R) (length S)
-  pub laid : Laid g dumps ins reps minimise R (take at S) w
-  pub spare : Spare g (take at S) w (length initial + (length later + 1))
+  pub laid : Laid g dumps ins reps mode 0 R (take at S) w
+  pub spare : Spare 0 g (take at S) w (length initial + (length later + 1))
   pub place : at ≡ listsAt (countOf g) (length initial + length later)
   pub fewer : count ≤ length ss
 

@@ -6,12 +6,12 @@
 -- Assumes nothing.
 use Prim.Native.Nat.{ℕ, zero, suc, _+_, _-_, _*_}
 use mathlib.Core.Path.{_≡_}
-use mathlib.Core.Bool.{Bool, true, false, cond}
+use mathlib.Core.Bool.{true, false, cond}
 use mathlib.Core.Option.{Option, none, some}
 use mathlib.Core.List.{List, [], _∷_, _++_}
 use lib.ListN.{length, getD, drop}
 use lib.Dec.{ltb, eqb}
-use Rattle.btor.specs.Operators.{rust}
+use Rattle.rules.specs.Model.{Mode}
 use Rattle.rules.specs.Refusal.{Out, refused, done}
 use Rattle.rules.specs.Sections.{wordOf}
 use Rattle.rules.specs.Table.{Node, kindOf, kindCode, constant, unknown}
@@ -66,9 +66,9 @@ firsts (suc c) f = firsts c f ++ (f c ∷ [])
 unfoldable pub tableOf : List ℕ → List Node
 tableOf g = firsts (countOf g) (nodeOf g)
 
--- what a call fixes: which names are memory dumps (a 1 for each that is), whether to minimise, and how many replies there are
-abbrev pub waysIn : List ℕ → Bool → List ℕ → Ways
-waysIn dumps minimise replies = record { dump = λ k. eqb (getD dumps k 0) 1; minimise = minimise; replyCount = length replies; reading = rust }
+-- what a call fixes: which names are memory dumps (a 1 for each that is), what its mode asks for, and how many replies there are
+abbrev pub waysIn : List ℕ → Mode → List ℕ → Ways
+waysIn dumps mode replies = record { dump = λ k. eqb (getD dumps k 0) 1; minimise = mode .minimise; replyCount = length replies; reading = mode .reading }
 
 -- ---- the buffers
 unfoldable pub rowsOf : ℕ → ℕ → List ℕ → ℕ → Node

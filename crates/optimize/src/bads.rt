@@ -3,6 +3,8 @@ use crate::buffers::get_constant;
 use crate::buffers::number;
 use crate::buffers::operand;
 use crate::buffers::wide;
+use crate::call_words::CallWords;
+use crate::call_words::Dumps;
 use crate::call_words::replies_in;
 use crate::fold::Constant;
 use crate::lists::put_entry;
@@ -109,15 +111,15 @@ fn should_retain_bad_state(
     given: &[u64],
     result: &mut [u64],
     scratch: &mut [u64],
-    dumps: &[u8; 4097],
-    call: &[usize; 5],
+    dumps: &Dumps,
+    call: &CallWords,
     how: Judging,
     place: usize,
     walk: Walk,
     bad: usize,
 ) -> Retained
     requires { ⌜ LaidBy (now given) (now dumps) (now call) (now result) (now scratch) walk ⌝ }
-    requires { ⌜ (bad < countOf (now given)) × Spare (now given) (now scratch) walk 1 ⌝ }
+    requires { ⌜ (bad < countOf (now given)) × Spare 0 (now given) (now scratch) walk 1 ⌝ }
     ensures { λ r. ⌜ RetainsBad given dumps call result scratch how place walk r bad ⌝ }
 {
     let visited = visit_entry(given, result, scratch, dumps, call, walk, bad);
@@ -144,8 +146,8 @@ fn retain_in(
     given: &[u64],
     result: &mut [u64],
     scratch: &mut [u64],
-    dumps: &[u8; 4097],
-    call: &[usize; 5],
+    dumps: &Dumps,
+    call: &CallWords,
     how: Judging,
     at: usize,
     place: usize,
@@ -153,7 +155,7 @@ fn retain_in(
     bad: usize,
 ) -> Retained
     requires { ⌜ LaidBy (now given) (now dumps) (now call) (now result) (take at (now scratch)) walk ⌝ }
-    requires { ⌜ (at ≤ length (now scratch)) × (bad < countOf (now given)) × Spare (now given) (take at (now scratch)) walk 1 ⌝ }
+    requires { ⌜ (at ≤ length (now scratch)) × (bad < countOf (now given)) × Spare 0 (now given) (take at (now scratch)) walk 1 ⌝ }
     ensures { λ r. ⌜ RetainsIn given dumps call result scratch at how place walk r bad ⌝ }
     ensures { λ _. ⌜ drop at (now (scratch .exit)) ≡ drop at (now (scratch .entry)) ⌝ }
 {
@@ -188,15 +190,15 @@ pub(crate) fn judge_bads(
     bads: &[u64],
     result: &mut [u64],
     scratch: &mut [u64],
-    dumps: &[u8; 4097],
-    call: &[usize; 5],
+    dumps: &Dumps,
+    call: &CallWords,
     how: Judging,
     at: usize,
     list: usize,
     walk: Walk,
 ) -> Judged
     requires { ⌜ LaidBy (now given) (now dumps) (now call) (now result) (take at (now scratch)) walk ⌝ }
-    requires { ⌜ All (BadEntry (tableOf (now given))) (now bads) × Spare (now given) (take at (now scratch)) walk (length (now bads)) ⌝ }
+    requires { ⌜ All (BadEntry (tableOf (now given))) (now bads) × Spare 0 (now given) (take at (now scratch)) walk (length (now bads)) ⌝ }
     requires { ⌜ (at ≤ list) × (list + length (now bads) ≤ length (now scratch)) ⌝ }
     ensures { λ r. ⌜ JudgesBads given dumps call result scratch bads at list how walk r ⌝ }
     ensures { λ r. ⌜ LeavesBads given dumps call result scratch bads at list walk r ⌝ }

@@ -1,4 +1,5 @@
 // The given words and the two lent buffers, word by word: rows, constants and marks.
+use crate::counters::Counters;
 use crate::counters::made_one;
 use crate::fold::Constant;
 use tables::node::CodedKind;
@@ -90,7 +91,7 @@ pub(crate) fn get_constant(given: &[u64], result: &[u64], made: usize, at: usize
 pub(crate) fn push(
     given: &[u64],
     result: &mut [u64],
-    counters: &mut [usize; 9],
+    counters: &mut Counters,
     sort: u64,
     value: u64,
 )

@@ -1,7 +1,13 @@
-// What a call fixes, as five words that visits are lent: where its inputs start and end among the given words, where its replies do, and 1 where
-// it minimises.
+// What a call fixes, as five words that visits are lent: where its inputs start and end among the given words, where its replies do, and its mode.
 ghost use mathlib.Core.Path.{_≡_};
-ghost use Rattle.optimize.specs.CallWords.{between, inputsIn, repliesIn, minimiseIn};
+ghost use Rattle.optimize.specs.CallWords.{between, inputsIn, repliesIn, modeIn};
+ghost use Rattle.rules.specs.Limits.{adds};
+ghost use Prim.Native.Nat.{_<_};
+
+pub(crate) type CallWords = [usize; 5];
+
+// A 1 for each name that begins with `memory-dump`; none has number 0.
+pub(crate) type Dumps = [u8; 4097];
 
 // The words from one place to another, as far as they are there.
 fn between(words: &[u64], from: usize, to: usize) -> &[u64]
@@ -20,20 +26,41 @@ fn between(words: &[u64], from: usize, to: usize) -> &[u64]
     &words[0..0]
 }
 
-pub(crate) fn inputs_in<'a>(given: &'a [u64], call: &[usize; 5]) -> &'a [u64]
+pub(crate) fn inputs_in<'a>(given: &'a [u64], call: &CallWords) -> &'a [u64]
     ensures { λ r. ⌜ now r ≡ inputsIn (now (given .entry)) (now (call .entry)) ⌝ }
 {
     between(given, call[0], call[1])
 }
 
-pub(crate) fn replies_in<'a>(given: &'a [u64], call: &[usize; 5]) -> &'a [u64]
+pub(crate) fn replies_in<'a>(given: &'a [u64], call: &CallWords) -> &'a [u64]
     ensures { λ r. ⌜ now r ≡ repliesIn (now (given .entry)) (now (call .entry)) ⌝ }
 {
     between(given, call[2], call[3])
 }
 
-pub(crate) fn minimises(call: &[usize; 5]) -> bool
-    ensures { λ r. ⌜ r ≡ minimiseIn (now (call .entry)) ⌝ }
+// ---- what the mode adds, a function for each part
+// Whether a mode has added a part: 1, 2 or 4.
+fn adds(mode: usize, part: usize) -> bool
+    requires { ⌜ 0 < part ⌝ }
+    ensures { λ r. ⌜ r ≡ adds mode part ⌝ }
 {
-    call[4] == 1
+    mode / part % 2 == 1
+}
+
+pub(crate) fn minimises(call: &CallWords) -> bool
+    ensures { λ r. ⌜ r ≡ modeIn (now (call .entry)) .minimise ⌝ }
+{
+    adds(call[4], 1)
+}
+
+pub(crate) fn terminates(call: &CallWords) -> bool
+    ensures { λ r. ⌜ r ≡ modeIn (now (call .entry)) .terminate ⌝ }
+{
+    adds(call[4], 2)
+}
+
+pub(crate) fn asks_once(call: &CallWords) -> bool
+    ensures { λ r. ⌜ r ≡ modeIn (now (call .entry)) .oneQuery ⌝ }
+{
+    adds(call[4], 4)
 }

@@ -12,7 +12,9 @@ ghost use Rattle.tables.specs.Refusals.{refusalOf};
 ghost use Rattle.optimize.specs.Bounds.{mostLooked, mostNodes};
 ghost use Rattle.optimize.specs.Counters.{walkIn, refusedIn, withWalk, oneMade, oneTaken, oneAsked, tallied, withRefusal, refusalBy, refusalIn, answerIn};
 
-pub(crate) fn walk_in(counters: &[usize; 9]) -> Walk
+pub(crate) type Counters = [usize; 9];
+
+pub(crate) fn walk_in(counters: &Counters) -> Walk
     ensures { λ r. ⌜ r ≡ walkIn (now (counters .entry)) ⌝ }
 {
     Walk {
@@ -26,7 +28,7 @@ pub(crate) fn walk_in(counters: &[usize; 9]) -> Walk
 }
 
 // The counters hold a walk.
-pub(crate) fn put_walk(walk: Walk, counters: &mut [usize; 9])
+pub(crate) fn put_walk(walk: Walk, counters: &mut Counters)
     ensures { λ _. ⌜ now (counters .exit) ≡ withWalk walk (now (counters .entry)) ⌝ }
 {
     *counters = [
@@ -43,7 +45,7 @@ pub(crate) fn put_walk(walk: Walk, counters: &mut [usize; 9])
 }
 
 // One more constant is made.
-pub(crate) fn made_one(counters: &mut [usize; 9])
+pub(crate) fn made_one(counters: &mut Counters)
     requires { ⌜ getD (now counters) 0 0 < mostNodes ⌝ }
     ensures { λ _. ⌜ now (counters .exit) ≡ withWalk (oneMade (walkIn (now (counters .entry)))) (now (counters .entry)) ⌝ }
 {
@@ -61,7 +63,7 @@ pub(crate) fn made_one(counters: &mut [usize; 9])
 }
 
 // One more input is taken.
-pub(crate) fn took_one(counters: &mut [usize; 9])
+pub(crate) fn took_one(counters: &mut Counters)
     requires { ⌜ getD (now counters) 1 0 < 18446744073709551615 ⌝ }
     ensures { λ _. ⌜ now (counters .exit) ≡ withWalk (oneTaken (walkIn (now (counters .entry)))) (now (counters .entry)) ⌝ }
 {
@@ -79,7 +81,7 @@ pub(crate) fn took_one(counters: &mut [usize; 9])
 }
 
 // One more question is asked; then so many replies are used.
-pub(crate) fn asked_one(counters: &mut [usize; 9], used: usize)
+pub(crate) fn asked_one(counters: &mut Counters, used: usize)
     requires { ⌜ getD (now counters) 3 0 < 18446744073709551615 ⌝ }
     ensures { λ _. ⌜ now (counters .exit) ≡ withWalk (oneAsked (walkIn (now (counters .entry))) used) (now (counters .entry)) ⌝ }
 {
@@ -97,7 +99,7 @@ pub(crate) fn asked_one(counters: &mut [usize; 9], used: usize)
 }
 
 // The counts of a search are added.
-pub(crate) fn tally(counters: &mut [usize; 9], looked: usize, passed: usize)
+pub(crate) fn tally(counters: &mut Counters, looked: usize, passed: usize)
     requires { ⌜ (getD (now counters) 4 0 ≤ mostLooked) × (getD (now counters) 5 0 ≤ mostLooked) ⌝ }
     requires { ⌜ (looked ≤ mostNodes) × (passed ≤ mostNodes) ⌝ }
     ensures { λ _. ⌜ now (counters .exit) ≡ withWalk (tallied (walkIn (now (counters .entry))) looked passed) (now (counters .entry)) ⌝ }
@@ -116,14 +118,14 @@ pub(crate) fn tally(counters: &mut [usize; 9], looked: usize, passed: usize)
 }
 
 // Whether a visit was refused.
-pub(crate) fn is_refused(counters: &[usize; 9]) -> bool
+pub(crate) fn is_refused(counters: &Counters) -> bool
     ensures { λ r. ⌜ r ≡ refusedIn (now (counters .entry)) ⌝ }
 {
     counters[6] != 0
 }
 
 // The walk ends with a refusal.
-pub(crate) fn refuse(refusal: Refusal, counters: &mut [usize; 9])
+pub(crate) fn refuse(refusal: Refusal, counters: &mut Counters)
     ensures { λ _. ⌜ now (counters .exit) ≡ withRefusal (refusalOf refusal) (now (counters .entry)) ⌝ }
 {
     *counters = [
@@ -168,14 +170,14 @@ fn refusal_by(number: usize, section: usize, position: usize) -> Refusal
 }
 
 // The refusal that ended the walk.
-pub(crate) fn refusal_in(counters: &[usize; 9]) -> Refusal
+pub(crate) fn refusal_in(counters: &Counters) -> Refusal
     ensures { λ r. ⌜ r ≡ refusalIn (now (counters .entry)) ⌝ }
 {
     refusal_by(counters[6], counters[7], counters[8])
 }
 
 // What a visit that answered `node` came to.
-pub(crate) fn visited_in(node: usize, counters: &[usize; 9]) -> Visited
+pub(crate) fn visited_in(node: usize, counters: &Counters) -> Visited
     ensures { λ r. ⌜ r ≡ answerIn node (now (counters .entry)) ⌝ }
 {
     if is_refused(counters) {

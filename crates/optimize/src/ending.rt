@@ -1,4 +1,5 @@
 // The end of a run: the counters are made sure of, which does not change the state that lies in the buffers, and the result is written.
+use crate::call_words::CallWords;
 use crate::call_words::inputs_in;
 use crate::call_words::replies_in;
 use crate::result::Kept;
@@ -67,7 +68,7 @@ fn write_run(
 // The same, of the inputs and the replies that the words of a call name.
 pub(crate) fn write_call(
     given: &[u64],
-    call: &[usize; 5],
+    call: &CallWords,
     result: &mut [u64],
     scratch: &[u64],
     walk: Walk,

@@ -1,6 +1,8 @@
 // A State without init takes an input: the concrete times, in visiting order.
 use crate::buffers::operand;
 use crate::buffers::word;
+use crate::call_words::Dumps;
+use crate::counters::Counters;
 use crate::counters::refuse;
 use crate::counters::took_one;
 use crate::fold::Folded;
@@ -32,8 +34,8 @@ pub(crate) fn take_input(
     inputs: &[u64],
     result: &mut [u64],
     scratch: &mut [u64],
-    dumps: &[u8; 4097],
-    counters: &mut [usize; 9],
+    dumps: &Dumps,
+    counters: &mut Counters,
     node: usize,
 ) -> usize
     requires { ⌜ Room (now given) (now result) (now scratch) (walkIn (now counters)) node ⌝ }

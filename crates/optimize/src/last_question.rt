@@ -1,5 +1,6 @@
 // The last question of one-query: whether the initial bads left are always false.
 use crate::buffers::number;
+use crate::call_words::CallWords;
 use crate::call_words::replies_in;
 use crate::smt_solver::Asked;
 use crate::smt_solver::ask_at;
@@ -88,7 +89,7 @@ fn last_question(
 // The same, with the replies that the words of a call name.
 pub(crate) fn put_last_question(
     given: &[u64],
-    call: &[usize; 5],
+    call: &CallWords,
     scratch: &mut [u64],
     at: usize,
     list: usize,

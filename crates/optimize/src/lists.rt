@@ -1,5 +1,7 @@
 // Lists of nodes in scratch, after the words of the walk, and the visits of such a list.
 use crate::buffers::number;
+use crate::call_words::CallWords;
+use crate::call_words::Dumps;
 use crate::visit::visit_entry;
 use crate::walk::Visited;
 use crate::walk::Walk;
@@ -26,8 +28,8 @@ pub(crate) fn visit_in(
     given: &[u64],
     result: &mut [u64],
     scratch: &mut [u64],
-    dumps: &[u8; 4097],
-    call: &[usize; 5],
+    dumps: &Dumps,
+    call: &CallWords,
     at: usize,
     walk: Walk,
     node: usize,
@@ -45,8 +47,8 @@ pub(crate) fn visit_all(
     given: &[u64],
     result: &mut [u64],
     scratch: &mut [u64],
-    dumps: &[u8; 4097],
-    call: &[usize; 5],
+    dumps: &Dumps,
+    call: &CallWords,
     at: usize,
     count: usize,
     walk: Walk,

@@ -1,4 +1,6 @@
 // The three entry points: a call is judged, folded, and both lent buffers are left as the rules say.
+use crate::buffers::number;
+use crate::call_words::Dumps;
 use crate::result::clear;
 use crate::run::run;
 use crate::walk::Optimized;
@@ -8,10 +10,8 @@ use tables::names::mark_memory_dumps;
 use tables::sections::Part;
 use tables::sections::Sections;
 ghost use mathlib.Core.Path.{_≡_};
-ghost use Prim.Native.Nat.{_<_};
 ghost use lib.ListN.{length, replicate};
-ghost use lib.Dec.{eqb};
-ghost use Rattle.rules.specs.Limits.{house, adds, modeOf};
+ghost use Rattle.rules.specs.Limits.{house, modeOf};
 ghost use Rattle.rules.specs.Call.{left, optimizeModelImpl, optimizeModelWithSolver, optimizeModelWithInput};
 ghost use Rattle.tables.specs.SectionAnswers.{Inside};
 ghost use Rattle.tables.specs.Judging.{callWith};
@@ -23,14 +23,6 @@ pub(crate) enum Entry {
     Impl,
     WithSolver,
     WithInput,
-}
-
-// Whether a mode has added a part: 1, 2 or 4.
-fn adds(mode: u64, part: u64) -> bool
-    requires { ⌜ 0 < part ⌝ }
-    ensures { λ r. ⌜ r ≡ adds mode part ⌝ }
-{
-    mode / part % 2 == 1
 }
 
 // Where the inputs that an entry point brings end: `optimize_model_with_solver` brings none.
@@ -55,13 +47,6 @@ fn replies_end(entry: Entry, replies: Part) -> usize
     }
 }
 
-// 1 for true, 0 for false.
-fn as_word(truth: bool) -> usize
-    ensures { λ r. ⌜ eqb r 1 ≡ truth ⌝ }
-{
-    if truth { 1 } else { 0 }
-}
-
 // Scratch is 0 after each call, and result after a refusal.
 fn finish_call(outcome: Optimized, result: &mut [u64], scratch: &mut [u64]) -> Optimized
     ensures { λ r. ⌜ r ≡ outcome ⌝ }
@@ -81,7 +66,7 @@ fn finish_call(outcome: Optimized, result: &mut [u64], scratch: &mut [u64]) -> O
 // Folds the parts of cut words; inputs and replies end at the two places.
 fn fold_parts(
     words: &[u64],
-    dumps: &[u8; 4097],
+    dumps: &Dumps,
     sections: Sections,
     inputs_to: usize,
     replies_to: usize,
@@ -101,20 +86,12 @@ fn fold_parts(
     let later_to = sections.later.end;
     let inputs = sections.inputs.start;
     let replies = sections.replies.start;
-    let call = [
-        inputs,
-        inputs_to,
-        replies,
-        replies_to,
-        as_word(adds(mode, 1)),
-    ];
+    let call = [inputs, inputs_to, replies, replies_to, number(mode)];
     run(
         words,
         &words[sequentials..sequentials_to],
         &words[initial..initial_to],
         &words[later..later_to],
-        adds(mode, 2),
-        adds(mode, 4),
         result,
         scratch,
         dumps,
@@ -137,7 +114,7 @@ fn fold_judged(
     ensures { λ _. ⌜ now (result .exit) ≡ left house (entryIs entry) (callLent mode words names result scratch) .result ⌝ }
     ensures { λ _. ⌜ now (scratch .exit) ≡ left house (entryIs entry) (callLent mode words names result scratch) .scratch ⌝ }
 {
-    let mut dumps = [0u8; 4097];
+    let mut dumps: Dumps = [0u8; 4097];
     mark_memory_dumps(names, &mut dumps);
     let inputs_to = inputs_end(entry, sections.inputs);
     let replies_to = replies_end(entry, sections.replies);

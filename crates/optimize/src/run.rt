@@ -5,6 +5,10 @@ use crate::bads::judge_bads;
 use crate::beginning::begin;
 use crate::beginning::untouched;
 use crate::buffers::node_count;
+use crate::call_words::CallWords;
+use crate::call_words::Dumps;
+use crate::call_words::asks_once;
+use crate::call_words::terminates;
 use crate::ending::write_call;
 use crate::last_question::Answered;
 use crate::last_question::put_last_question;
@@ -30,18 +34,18 @@ fn fold_bads(
     sequentials: &[u64],
     initial: &[u64],
     later: &[u64],
-    terminate: bool,
     result: &mut [u64],
     scratch: &mut [u64],
-    dumps: &[u8; 4097],
-    call: &[usize; 5],
+    dumps: &Dumps,
+    call: &CallWords,
     at: usize,
     kept: usize,
     walk: Walk,
 ) -> Optimized
     requires { ⌜ UnderwayBy (now given) (now dumps) (now call) (now sequentials) (now initial) (now later) (now result) (now scratch) walk at kept ⌝ }
-    ensures { λ r. ⌜ EndsBads given dumps call sequentials initial later result scratch terminate false at kept walk r ⌝ }
+    ensures { λ r. ⌜ EndsBads given dumps call sequentials initial later result scratch false at kept walk r ⌝ }
 {
+    let terminate = terminates(call);
     let second = at + sequentials.len();
     let third = second + initial.len();
     let how = Judging {
@@ -107,17 +111,16 @@ fn fold_once(
     sequentials: &[u64],
     initial: &[u64],
     later: &[u64],
-    terminate: bool,
     result: &mut [u64],
     scratch: &mut [u64],
-    dumps: &[u8; 4097],
-    call: &[usize; 5],
+    dumps: &Dumps,
+    call: &CallWords,
     at: usize,
     kept: usize,
     walk: Walk,
 ) -> Optimized
     requires { ⌜ UnderwayBy (now given) (now dumps) (now call) (now sequentials) (now initial) (now later) (now result) (now scratch) walk at kept ⌝ }
-    ensures { λ r. ⌜ EndsBads given dumps call sequentials initial later result scratch terminate true at kept walk r ⌝ }
+    ensures { λ r. ⌜ EndsBads given dumps call sequentials initial later result scratch true at kept walk r ⌝ }
 {
     let second = at + sequentials.len();
     let third = second + initial.len();
@@ -187,29 +190,27 @@ pub(crate) fn run(
     sequentials: &[u64],
     initial: &[u64],
     later: &[u64],
-    terminate: bool,
-    one_query: bool,
     result: &mut [u64],
     scratch: &mut [u64],
-    dumps: &[u8; 4097],
-    call: &[usize; 5],
+    dumps: &Dumps,
+    call: &CallWords,
 ) -> Optimized
     requires { ⌜ RunnableBy (now given) (now dumps) (now call) (now sequentials) (now initial) (now later) (length (now result)) (length (now scratch)) ⌝ }
-    ensures { λ r. ⌜ RunsWhole given dumps call sequentials initial later result scratch terminate «one_query» r ⌝ }
+    ensures { λ r. ⌜ RunsWhole given dumps call sequentials initial later result scratch r ⌝ }
 {
+    let once = asks_once(call);
     let at = lists_at(given, initial.len() + later.len());
     let kept = begin(given, sequentials, result, scratch, at);
     let walked = visit_all(given, result, scratch, dumps, call, at, kept, untouched());
     match walked {
         Walked::Refused(refusal) => Optimized::Refused(refusal),
         Walked::Done(walk) => {
-            if one_query {
+            if once {
                 return fold_once(
                     given,
                     sequentials,
                     initial,
                     later,
-                    terminate,
                     result,
                     scratch,
                     dumps,
@@ -224,7 +225,6 @@ pub(crate) fn run(
                 sequentials,
                 initial,
                 later,
-                terminate,
                 result,
                 scratch,
                 dumps,

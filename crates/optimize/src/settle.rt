@@ -5,8 +5,10 @@ use crate::buffers::node_count;
 use crate::buffers::push;
 use crate::buffers::put_mark;
 use crate::buffers::word;
+use crate::call_words::CallWords;
 use crate::call_words::minimises;
 use crate::call_words::replies_in;
+use crate::counters::Counters;
 use crate::counters::is_refused;
 use crate::counters::tally;
 use crate::fold::Constant;
@@ -26,15 +28,15 @@ use tables::node::NodeKind;
 ghost use Prim.Native.Nat.{_<_};
 ghost use mathlib.Core.Path.{_≡_};
 ghost use lib.ListN.{getD};
-ghost use Rattle.rules.specs.Visit.{settle, finish};
+ghost use Rattle.rules.specs.Visit.{settle, finish, forward};
 ghost use Rattle.tables.specs.NodeAnswers.{kindIs};
 ghost use Rattle.optimize.specs.Bounds.{countOf, CountedAt, HasBoth};
-ghost use Rattle.optimize.specs.View.{foldIs, tableOf};
+ghost use Rattle.optimize.specs.View.{foldIs, tableOf, constantIs};
 ghost use Rattle.optimize.specs.Folding.{Falls};
 ghost use Rattle.optimize.specs.Process.{bitOf, afterOne, afterTwo, afterIte, constOut, isRead};
 ghost use Rattle.optimize.specs.Laid.{Room};
 ghost use Rattle.optimize.specs.Counters.{walkIn, Going};
-ghost use Rattle.optimize.specs.Clauses.{Forwards, Settles, SettlesBy, SettlesSolved};
+ghost use Rattle.optimize.specs.Clauses.{Settles, SettlesBy, SettlesSolved};
 
 fn is_read(kind: NodeKind) -> bool
     ensures { λ r. ⌜ r ≡ isRead (kindIs kind) ⌝ }
@@ -70,7 +72,7 @@ pub(crate) fn settle(
     given: &[u64],
     result: &mut [u64],
     scratch: &mut [u64],
-    counters: &mut [usize; 9],
+    counters: &mut Counters,
     node: usize,
     fold: Folded,
 ) -> usize
@@ -104,7 +106,7 @@ pub(crate) fn settle_solved(
     given: &[u64],
     result: &mut [u64],
     scratch: &mut [u64],
-    counters: &mut [usize; 9],
+    counters: &mut Counters,
     node: usize,
     solved: Folded,
 ) -> usize
@@ -122,10 +124,10 @@ pub(crate) fn settle_solved(
 // Records what a node folds to; one that stays is asked about under minimise, if it is asked about as a bit.
 fn finish(
     given: &[u64],
-    call: &[usize; 5],
+    call: &CallWords,
     result: &mut [u64],
     scratch: &mut [u64],
-    counters: &mut [usize; 9],
+    counters: &mut Counters,
     node: usize,
     bit: bool,
     fold: Folded,
@@ -158,7 +160,7 @@ pub(crate) fn settle_const(
     given: &[u64],
     result: &mut [u64],
     scratch: &mut [u64],
-    counters: &mut [usize; 9],
+    counters: &mut Counters,
     node: usize,
 ) -> usize
     requires { ⌜ Room (now given) (now result) (now scratch) (walkIn (now counters)) node ⌝ }
@@ -175,7 +177,7 @@ pub(crate) fn after_one(
     given: &[u64],
     result: &mut [u64],
     scratch: &mut [u64],
-    counters: &mut [usize; 9],
+    counters: &mut Counters,
     node: usize,
     kind: NodeKind,
     x: usize,
@@ -194,9 +196,10 @@ pub(crate) fn after_one(
 // Forwards a Read of the node `memory` at a constant address: what the write holds that it finds replaces it.
 fn read(
     given: &[u64],
+    call: &CallWords,
     result: &mut [u64],
     scratch: &mut [u64],
-    counters: &mut [usize; 9],
+    counters: &mut Counters,
     node: usize,
     memory: usize,
     address: Constant,
@@ -204,7 +207,7 @@ fn read(
     requires { ⌜ Room (now given) (now result) (now scratch) (walkIn (now counters)) node ⌝ }
     requires { ⌜ Going (now counters) ⌝ }
     requires { ⌜ Falls (countOf (now given)) (getD (now counters) 0 0) (now result) ⌝ }
-    ensures { λ r. ⌜ Forwards given result scratch counters r node memory address ⌝ }
+    ensures { λ r. ⌜ SettlesBy given result scratch counters r call (λ g ways σ. forward (tableOf g) ways node σ memory (constantIs address)) ⌝ }
 {
     let Constant::Imm(x) = address else {
         return settle(given, result, scratch, counters, node, Folded::Stays);
@@ -226,10 +229,10 @@ fn read(
 // Folds a node whose two operands were visited.
 pub(crate) fn after_two(
     given: &[u64],
-    call: &[usize; 5],
+    call: &CallWords,
     result: &mut [u64],
     scratch: &mut [u64],
-    counters: &mut [usize; 9],
+    counters: &mut Counters,
     node: usize,
     kind: NodeKind,
     x: usize,
@@ -242,7 +245,7 @@ pub(crate) fn after_two(
 {
     let right = get_constant(given, result, counters[0], y);
     if is_read(kind) {
-        return read(given, result, scratch, counters, node, x, right);
+        return read(given, call, result, scratch, counters, node, x, right);
     }
     let n = node_count(given);
     let sort = word(given, node, 1);
@@ -255,10 +258,10 @@ pub(crate) fn after_two(
 // Asks about an Ite whose condition and branches were visited, under minimise.
 pub(crate) fn after_ite(
     given: &[u64],
-    call: &[usize; 5],
+    call: &CallWords,
     result: &mut [u64],
     scratch: &mut [u64],
-    counters: &mut [usize; 9],
+    counters: &mut Counters,
     node: usize,
     x: usize,
     y: usize,

@@ -1,6 +1,7 @@
 // The questions of SMTSolver; the replies of the call stand in place of a solver.
 use crate::buffers::node_count;
 use crate::buffers::wide;
+use crate::counters::Counters;
 use crate::counters::asked_one;
 use crate::counters::is_refused;
 use crate::counters::put_walk;
@@ -69,7 +70,7 @@ pub(crate) fn ask(
     given: &[u64],
     replies: &[u64],
     scratch: &mut [u64],
-    counters: &mut [usize; 9],
+    counters: &mut Counters,
     kind: u64,
     first: usize,
     second: usize,
@@ -118,7 +119,7 @@ pub(crate) fn ask_at(
 }
 
 // What a question that answered `reply` came to.
-fn asked_in(reply: u64, counters: &[usize; 9]) -> Asked
+fn asked_in(reply: u64, counters: &Counters) -> Asked
     ensures { λ r. ⌜ ((h : List Held) (g inputs replies R S : List ℕ) → askedOf h g inputs replies r R S ≡ askedBy h g inputs replies reply (now (counters .entry)) R S) ⌝ }
 {
     if is_refused(counters) {
@@ -132,7 +133,7 @@ pub(crate) fn ask_or(
     given: &[u64],
     replies: &[u64],
     scratch: &mut [u64],
-    counters: &mut [usize; 9],
+    counters: &mut Counters,
     kind: u64,
     first: usize,
     second: usize,
@@ -156,7 +157,7 @@ pub(crate) fn then_ask(
     given: &[u64],
     replies: &[u64],
     scratch: &mut [u64],
-    counters: &mut [usize; 9],
+    counters: &mut Counters,
     before: Folded,
     kind: u64,
     first: usize,
@@ -182,7 +183,7 @@ pub(crate) fn ask_bit(
     given: &[u64],
     replies: &[u64],
     scratch: &mut [u64],
-    counters: &mut [usize; 9],
+    counters: &mut Counters,
     node: usize,
 ) -> Folded
     requires { ⌜ Counted (now given) ⌝ }

@@ -1,5 +1,6 @@
 // Under minimise: the questions about a node that stays, and what is recorded of it then; solve_boolean_binary, solve_ite_bit and
 // solve_ite_word of optimize.rs.
+use crate::counters::Counters;
 use crate::fold::Folded;
 use crate::settle::settle_solved;
 use crate::smt_solver::ask_bit;
@@ -18,7 +19,7 @@ pub(crate) fn solve_boolean_binary(
     replies: &[u64],
     result: &mut [u64],
     scratch: &mut [u64],
-    counters: &mut [usize; 9],
+    counters: &mut Counters,
     node: usize,
 ) -> usize
     requires { ⌜ Room (now given) (now result) (now scratch) (walkIn (now counters)) node ⌝ }
@@ -35,7 +36,7 @@ pub(crate) fn solve_ite_bit(
     replies: &[u64],
     result: &mut [u64],
     scratch: &mut [u64],
-    counters: &mut [usize; 9],
+    counters: &mut Counters,
     node: usize,
     x: usize,
 ) -> usize
@@ -64,7 +65,7 @@ pub(crate) fn solve_ite_word(
     replies: &[u64],
     result: &mut [u64],
     scratch: &mut [u64],
-    counters: &mut [usize; 9],
+    counters: &mut Counters,
     node: usize,
     y: usize,
     z: usize,

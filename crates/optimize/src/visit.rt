@@ -7,7 +7,10 @@ use crate::buffers::number;
 use crate::buffers::operand;
 use crate::buffers::put_row;
 use crate::buffers::word;
+use crate::call_words::CallWords;
+use crate::call_words::Dumps;
 use crate::call_words::inputs_in;
+use crate::counters::Counters;
 use crate::counters::is_refused;
 use crate::counters::put_walk;
 use crate::counters::visited_in;
@@ -44,9 +47,9 @@ fn visit(
     given: &[u64],
     result: &mut [u64],
     scratch: &mut [u64],
-    dumps: &[u8; 4097],
-    call: &[usize; 5],
-    counters: &mut [usize; 9],
+    dumps: &Dumps,
+    call: &CallWords,
+    counters: &mut Counters,
     node: usize,
 ) -> usize
     requires { ⌜ LaidBy (now given) (now dumps) (now call) (now result) (now scratch) (walkIn (now counters)) ⌝ }
@@ -70,9 +73,9 @@ fn process(
     given: &[u64],
     result: &mut [u64],
     scratch: &mut [u64],
-    dumps: &[u8; 4097],
-    call: &[usize; 5],
-    counters: &mut [usize; 9],
+    dumps: &Dumps,
+    call: &CallWords,
+    counters: &mut Counters,
     node: usize,
 ) -> usize
     requires { ⌜ LaidBy (now given) (now dumps) (now call) (now result) (now scratch) (walkIn (now counters)) ⌝ }
@@ -108,9 +111,9 @@ fn process_one(
     given: &[u64],
     result: &mut [u64],
     scratch: &mut [u64],
-    dumps: &[u8; 4097],
-    call: &[usize; 5],
-    counters: &mut [usize; 9],
+    dumps: &Dumps,
+    call: &CallWords,
+    counters: &mut Counters,
     node: usize,
     kind: NodeKind,
 ) -> usize
@@ -149,9 +152,9 @@ fn process_two(
     given: &[u64],
     result: &mut [u64],
     scratch: &mut [u64],
-    dumps: &[u8; 4097],
-    call: &[usize; 5],
-    counters: &mut [usize; 9],
+    dumps: &Dumps,
+    call: &CallWords,
+    counters: &mut Counters,
     node: usize,
     kind: NodeKind,
 ) -> usize
@@ -198,9 +201,9 @@ fn process_three(
     given: &[u64],
     result: &mut [u64],
     scratch: &mut [u64],
-    dumps: &[u8; 4097],
-    call: &[usize; 5],
-    counters: &mut [usize; 9],
+    dumps: &Dumps,
+    call: &CallWords,
+    counters: &mut Counters,
     node: usize,
 ) -> usize
     requires { ⌜ LaidBy (now given) (now dumps) (now call) (now result) (now scratch) (walkIn (now counters)) ⌝ }
@@ -257,9 +260,9 @@ fn process_ite(
     given: &[u64],
     result: &mut [u64],
     scratch: &mut [u64],
-    dumps: &[u8; 4097],
-    call: &[usize; 5],
-    counters: &mut [usize; 9],
+    dumps: &Dumps,
+    call: &CallWords,
+    counters: &mut Counters,
     node: usize,
 ) -> usize
     requires { ⌜ LaidBy (now given) (now dumps) (now call) (now result) (now scratch) (walkIn (now counters)) ⌝ }
@@ -296,9 +299,9 @@ fn process_left(
     given: &[u64],
     result: &mut [u64],
     scratch: &mut [u64],
-    dumps: &[u8; 4097],
-    call: &[usize; 5],
-    counters: &mut [usize; 9],
+    dumps: &Dumps,
+    call: &CallWords,
+    counters: &mut Counters,
     node: usize,
     x: usize,
 ) -> usize
@@ -330,9 +333,9 @@ fn process_right(
     given: &[u64],
     result: &mut [u64],
     scratch: &mut [u64],
-    dumps: &[u8; 4097],
-    call: &[usize; 5],
-    counters: &mut [usize; 9],
+    dumps: &Dumps,
+    call: &CallWords,
+    counters: &mut Counters,
     node: usize,
     x: usize,
 ) -> usize
@@ -364,9 +367,9 @@ fn process_both(
     given: &[u64],
     result: &mut [u64],
     scratch: &mut [u64],
-    dumps: &[u8; 4097],
-    call: &[usize; 5],
-    counters: &mut [usize; 9],
+    dumps: &Dumps,
+    call: &CallWords,
+    counters: &mut Counters,
     node: usize,
     x: usize,
 ) -> usize
@@ -411,9 +414,9 @@ fn process_next(
     given: &[u64],
     result: &mut [u64],
     scratch: &mut [u64],
-    dumps: &[u8; 4097],
-    call: &[usize; 5],
-    counters: &mut [usize; 9],
+    dumps: &Dumps,
+    call: &CallWords,
+    counters: &mut Counters,
     node: usize,
 ) -> usize
     requires { ⌜ LaidBy (now given) (now dumps) (now call) (now result) (now scratch) (walkIn (now counters)) ⌝ }
@@ -437,9 +440,9 @@ fn process_value(
     given: &[u64],
     result: &mut [u64],
     scratch: &mut [u64],
-    dumps: &[u8; 4097],
-    call: &[usize; 5],
-    counters: &mut [usize; 9],
+    dumps: &Dumps,
+    call: &CallWords,
+    counters: &mut Counters,
     node: usize,
 ) -> usize
     requires { ⌜ LaidBy (now given) (now dumps) (now call) (now result) (now scratch) (walkIn (now counters)) ⌝ }
@@ -478,8 +481,8 @@ pub(crate) fn visit_entry(
     given: &[u64],
     result: &mut [u64],
     scratch: &mut [u64],
-    dumps: &[u8; 4097],
-    call: &[usize; 5],
+    dumps: &Dumps,
+    call: &CallWords,
     walk: Walk,
     node: usize,
 ) -> Visited

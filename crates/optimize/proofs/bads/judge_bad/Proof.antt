@@ -20,7 +20,7 @@ unfolding retainedOf
 returns c =
     let at-get-constant = c .before .before in
     let start = at-get-constant .before .before .before .before .before in
-    λ h inputs dumps minimise. bad-zero h (start .args .given .now) inputs (start .args .replies .now) (start .args .result .now) (start .args .scratch .now) (start .args .walk) (waysIn dumps minimise (start .args .replies .now)) (start .args .how) (start .args .place) (start .args .condition) _ (at-get-constant .get-constant .ensures) (sym (c .before .is-const .ensures) ∙ c .if1 .taken)
+    λ h inputs dumps mode. bad-zero h (start .args .given .now) inputs (start .args .replies .now) (start .args .result .now) (start .args .scratch .now) (start .args .walk) (waysIn dumps mode (start .args .replies .now)) (start .args .how) (start .args .place) (start .args .condition) _ (at-get-constant .get-constant .ensures) (sym (c .before .is-const .ensures) ∙ c .if1 .taken)
 
 is-const-requires-2 : tie.Need-is-const-requires-2
 is-const-requires-2 c κs = search needs
@@ -33,7 +33,7 @@ returns-2 c =
     let at-is-const = at-if1 .before in
     let at-get-constant = at-is-const .before in
     let start = at-get-constant .before .before .before .before .before in
-    λ h inputs dumps minimise. bad-refused h (start .args .given .now) inputs (start .args .replies .now) (start .args .result .now) (start .args .scratch .now) (start .args .walk) (waysIn dumps minimise (start .args .replies .now)) (start .args .how) (start .args .place) (start .args .condition) _ (at-get-constant .get-constant .ensures) (sym (at-is-const .is-const .ensures) ∙ at-if1 .if1 .left) (sym (at-is-const2 .is-const2 .ensures) ∙ c .before .if2 .taken) (c .if3 .taken)
+    λ h inputs dumps mode. bad-refused h (start .args .given .now) inputs (start .args .replies .now) (start .args .result .now) (start .args .scratch .now) (start .args .walk) (waysIn dumps mode (start .args .replies .now)) (start .args .how) (start .args .place) (start .args .condition) _ (at-get-constant .get-constant .ensures) (sym (at-is-const .is-const .ensures) ∙ at-if1 .if1 .left) (sym (at-is-const2 .is-const2 .ensures) ∙ c .before .if2 .taken) (c .if3 .taken)
 
 returns-3 : tie.Need-returns-3
 unfolding retainedOf
@@ -43,7 +43,7 @@ returns-3 c =
     let at-is-const = at-if1 .before in
     let at-get-constant = at-is-const .before in
     let start = at-get-constant .before .before .before .before .before in
-    λ h inputs dumps minimise. bad-one h (start .args .given .now) inputs (start .args .replies .now) (start .args .result .now) (start .args .scratch .now) (start .args .walk) (waysIn dumps minimise (start .args .replies .now)) (start .args .how) (start .args .place) (start .args .condition) _ (at-get-constant .get-constant .ensures) (sym (at-is-const .is-const .ensures) ∙ at-if1 .if1 .left) (sym (at-is-const2 .is-const2 .ensures) ∙ c .before .if2 .taken) (c .if3 .left)
+    λ h inputs dumps mode. bad-one h (start .args .given .now) inputs (start .args .replies .now) (start .args .result .now) (start .args .scratch .now) (start .args .walk) (waysIn dumps mode (start .args .replies .now)) (start .args .how) (start .args .place) (start .args .condition) _ (at-get-constant .get-constant .ensures) (sym (at-is-const .is-const .ensures) ∙ at-if1 .if1 .left) (sym (at-is-const2 .is-const2 .ensures) ∙ c .before .if2 .taken) (c .if3 .left)
 
 returns-4 : tie.Need-returns-4
 unfolding retainedOf
@@ -54,7 +54,7 @@ returns-4 c =
     let at-is-const = at-if1 .before in
     let at-get-constant = at-is-const .before in
     let start = at-get-constant .before .before .before .before .before in
-    λ h inputs dumps minimise. bad-unasked h (start .args .given .now) inputs (start .args .replies .now) (start .args .result .now) (start .args .scratch .now) (start .args .walk) (waysIn dumps minimise (start .args .replies .now)) (start .args .how) (start .args .place) (start .args .condition) _ (at-get-constant .get-constant .ensures) (sym (at-is-const .is-const .ensures) ∙ at-if1 .if1 .left) (sym (at-is-const2 .is-const2 .ensures) ∙ at-if2 .if2 .left) (not-true _ (c .if4 .taken))
+    λ h inputs dumps mode. bad-unasked h (start .args .given .now) inputs (start .args .replies .now) (start .args .result .now) (start .args .scratch .now) (start .args .walk) (waysIn dumps mode (start .args .replies .now)) (start .args .how) (start .args .place) (start .args .condition) _ (at-get-constant .get-constant .ensures) (sym (at-is-const .is-const .ensures) ∙ at-if1 .if1 .left) (sym (at-is-const2 .is-const2 .ensures) ∙ at-if2 .if2 .left) (not-true _ (c .if4 .taken))
 
 ask-at-requires : tie.Need-ask-at-requires
 ask-at-requires c κs = search needs
@@ -82,7 +82,7 @@ returns-5 c =
     let at-is-const = at-if1 .before in
     let at-get-constant = at-is-const .before in
     let start = at-get-constant .before .before .before .before .before in
-    λ h inputs dumps minimise. c .by-reply .ensures h (start .args .given .now) inputs (start .args .replies .now) (start .args .result .now) _ (waysIn dumps minimise (start .args .replies .now)) ∙ bad-replied h (start .args .given .now) inputs (start .args .replies .now) (start .args .result .now) (start .args .scratch .now) (start .args .walk) (waysIn dumps minimise (start .args .replies .now)) (start .args .how) (start .args .place) (start .args .condition) _ (at-get-constant .get-constant .ensures) (sym (at-is-const .is-const .ensures) ∙ at-if1 .if1 .left) (sym (at-is-const2 .is-const2 .ensures) ∙ at-if2 .if2 .left) (not-false _ (at-if4 .if4 .left)) _ _ (at-ask-at .ask-at .ensures h inputs (start .args .result .now)) _ _ (at-asked .asked .given .1)
+    λ h inputs dumps mode. c .by-reply .ensures h (start .args .given .now) inputs (start .args .replies .now) (start .args .result .now) _ (waysIn dumps mode (start .args .replies .now)) ∙ bad-replied h (start .args .given .now) inputs (start .args .replies .now) (start .args .result .now) (start .args .scratch .now) (start .args .walk) (waysIn dumps mode (start .args .replies .now)) (start .args .how) (start .args .place) (start .args .condition) _ (at-get-constant .get-constant .ensures) (sym (at-is-const .is-const .ensures) ∙ at-if1 .if1 .left) (sym (at-is-const2 .is-const2 .ensures) ∙ at-if2 .if2 .left) (not-false _ (at-if4 .if4 .left)) _ _ (at-ask-at .ask-at .ensures h inputs (start .args .result .now)) _ _ (at-asked .asked .given .1)
 
 same-length-2 : tie.Need-same-length-2
 same-length-2 c = search needs
@@ -98,7 +98,7 @@ returns-6 c =
     let at-is-const = at-if1 .before in
     let at-get-constant = at-is-const .before in
     let start = at-get-constant .before .before .before .before .before in
-    λ h inputs dumps minimise. bad-stopped h (start .args .given .now) inputs (start .args .replies .now) (start .args .result .now) (start .args .scratch .now) (start .args .walk) (waysIn dumps minimise (start .args .replies .now)) (start .args .how) (start .args .place) (start .args .condition) _ (at-get-constant .get-constant .ensures) (sym (at-is-const .is-const .ensures) ∙ at-if1 .if1 .left) (sym (at-is-const2 .is-const2 .ensures) ∙ at-if2 .if2 .left) (not-false _ (at-if4 .if4 .left)) _ _ (at-ask-at .ask-at .ensures h inputs (start .args .result .now)) _ (c .before .asked2 .given .1)
+    λ h inputs dumps mode. bad-stopped h (start .args .given .now) inputs (start .args .replies .now) (start .args .result .now) (start .args .scratch .now) (start .args .walk) (waysIn dumps mode (start .args .replies .now)) (start .args .how) (start .args .place) (start .args .condition) _ (at-get-constant .get-constant .ensures) (sym (at-is-const .is-const .ensures) ∙ at-if1 .if1 .left) (sym (at-is-const2 .is-const2 .ensures) ∙ at-if2 .if2 .left) (not-false _ (at-if4 .if4 .left)) _ _ (at-ask-at .ask-at .ensures h inputs (start .args .result .now)) _ (c .before .asked2 .given .1)
 
 pub judge-bad-spec : {M : Type 1} → statement M
 judge-bad-spec = tie.close (tie.spec get-constant-requires is-const-requires returns is-const-requires-2 returns-2 returns-3 returns-4 ask-at-requires enum-known-asked by-reply-requires enum-known-asked-2 same-length returns-5 same-length-2 returns-6)

@@ -16,12 +16,12 @@ use Rattle.optimize.specs.Lists.{entriesOf}
 use Rattle.optimize.specs.Bads.{Spare, listRule}
 use Rattle.optimize.proofs.Entries.{all-at}
 use Rattle.optimize.proofs.BadLaws.{before, list-start, bads-on, bads-stop, bads-end, bads-still, bads-still-1, bad-inside, laid-retained, spare-retained, spare-less, never-refused, laid-end, few-end, spare-end, take-front}
-use Rattle.optimize.specs.CallWords.{inputsIn, repliesIn, minimiseIn, waysBy}
+use Rattle.optimize.specs.CallWords.{inputsIn, repliesIn, modeIn, waysBy}
 use Rattle.optimize.proofs.bads.judge_bads.Statement.{statement}
 use Rattle.optimize.proofs.bads.judge_bads.Tie as tie
 
 abbrev Inv-loop : tie.InvT-loop
-Inv-loop given bads result₀ scratch₀ dumps call how at list walk₀ kept₀ i₀ result scratch walk kept i = (i ≤ length bads) × (kept ≤ i) × (length result ≡ length result₀) × (length scratch ≡ length scratch₀) × Laid given dumps (inputsIn given call) (repliesIn given call) (minimiseIn call) result (take at scratch) walk × ((c : ℕ) → Spare given (take at scratch₀) walk₀ (length bads + c) → Spare given (take at scratch) walk (length bads - i + c)) × ((j : ℕ) → at ≤ j → j < list → getD scratch j 0 ≡ getD scratch₀ j 0) × ((h : List Held) → (h′ : List Held) × (D : List ℕ) × (listRule given (waysBy given dumps call) how 0 (view h given (inputsIn given call) (repliesIn given call) result₀ (take at scratch₀) walk₀) bads ≡ (listRule given (waysBy given dumps call) how i (view h′ given (inputsIn given call) (repliesIn given call) result (take at scratch) walk) (drop i bads) >>= λ r. done (before (entriesOf scratch list kept) D r))))
+Inv-loop given bads result₀ scratch₀ dumps call how at list walk₀ kept₀ i₀ result scratch walk kept i = (i ≤ length bads) × (kept ≤ i) × (length result ≡ length result₀) × (length scratch ≡ length scratch₀) × Laid given dumps (inputsIn given call) (repliesIn given call) (modeIn call) 0 result (take at scratch) walk × ((c : ℕ) → Spare 0 given (take at scratch₀) walk₀ (length bads + c) → Spare 0 given (take at scratch) walk (length bads - i + c)) × ((j : ℕ) → at ≤ j → j < list → getD scratch j 0 ≡ getD scratch₀ j 0) × ((h : List Held) → (h′ : List Held) × (D : List ℕ) × (listRule given (waysBy given dumps call) how 0 (view h given (inputsIn given call) (repliesIn given call) result₀ (take at scratch₀) walk₀) bads ≡ (listRule given (waysBy given dumps call) how i (view h′ given (inputsIn given call) (repliesIn given call) result (take at scratch) walk) (drop i bads) >>= λ r. done (before (entriesOf scratch list kept) D r))))
 
 abbrev μ-loop : tie.MeasureT-loop
 μ-loop given bads result₀ scratch₀ dumps call how at list walk₀ kept₀ i₀ result scratch walk kept i = length bads - i
@@ -29,7 +29,7 @@ abbrev μ-loop : tie.MeasureT-loop
 loop-holds : tie.Need-loop-holds Inv-loop μ-loop
 loop-holds c =
     let start = c .before .before .before .before in
-    (omega arith, omega arith, refl, refl, start .pre .0, (λ c s. spare-less (start .args .given .now) (take (start .args .at) (start .args .scratch .now)) (start .args .walk) (length (start .args .bads .now) + c) (length (start .args .bads .now) - 0 + c) (omega arith) s), (λ j a b. refl), λ h. (h, [], list-start _))
+    (omega arith, omega arith, refl, refl, start .pre .0, (λ c s. spare-less 0 (start .args .given .now) (take (start .args .at) (start .args .scratch .now)) (start .args .walk) (length (start .args .bads .now) + c) (length (start .args .bads .now) - 0 + c) (omega arith) s), (λ j a b. refl), λ h. (h, [], list-start _))
 
 mul-number : tie.Need-mul-number Inv-loop μ-loop
 mul-number c = search needs
@@ -45,7 +45,7 @@ retain-in-requires c κs =
     let at-number = c .before .before in
     let at-loop = at-number .before .before .before in
     let start = at-loop .before .before .before .before .before in
-    (at-loop .loop .inv .4, ((omega (arith, start .pre .1 .1 .0, start .pre .1 .1 .1, at-loop .loop .inv .3)), bad-inside _ _ (subst (BadEntry (tableOf (start .args .given .now))) (sym (at-number .number .ensures)) (all-at (BadEntry (tableOf (start .args .given .now))) (start .args .bads .now) (start .pre .1 .0 .0) (at-loop .loop .i) (omega arith))), (spare-less (start .args .given .now) (take (start .args .at) (at-loop .loop .scratch)) (at-loop .loop .walk) (length (start .args .bads .now) - (at-loop .loop .i) + 0) 1 (omega arith) (at-loop .loop .inv .5 0 (spare-less (start .args .given .now) (take (start .args .at) (start .args .scratch .now)) (start .args .walk) (length (start .args .bads .now)) (length (start .args .bads .now) + 0) (omega arith) (start .pre .1 .0 .1))))))
+    (at-loop .loop .inv .4, ((omega (arith, start .pre .1 .1 .0, start .pre .1 .1 .1, at-loop .loop .inv .3)), bad-inside _ _ (subst (BadEntry (tableOf (start .args .given .now))) (sym (at-number .number .ensures)) (all-at (BadEntry (tableOf (start .args .given .now))) (start .args .bads .now) (start .pre .1 .0 .0) (at-loop .loop .i) (omega arith))), (spare-less 0 (start .args .given .now) (take (start .args .at) (at-loop .loop .scratch)) (at-loop .loop .walk) (length (start .args .bads .now) - (at-loop .loop .i) + 0) 1 (omega arith) (at-loop .loop .inv .5 0 (spare-less 0 (start .args .given .now) (take (start .args .at) (start .args .scratch .now)) (start .args .walk) (length (start .args .bads .now)) (length (start .args .bads .now) + 0) (omega arith) (start .pre .1 .0 .1))))))
 
 enum-known-retained : tie.Need-enum-known-retained Inv-loop μ-loop
 enum-known-retained c = search needs
@@ -81,7 +81,7 @@ returns c =
     let at-number = at-retain-in .before .before .before in
     let at-loop = at-number .before .before .before in
     let start = at-loop .before .before .before .before .before in
-    ((λ h. bads-stop (start .args .given .now) (start .args .dumps .now) (inputsIn (start .args .given .now) (start .args .call .now)) (repliesIn (start .args .given .now) (start .args .call .now)) (minimiseIn (start .args .call .now)) (start .args .how) (start .args .bads .now) (at-loop .loop .result) (at-loop .loop .scratch) (start .args .at) (start .args .list) (at-loop .loop .walk) (at-loop .loop .kept) (at-loop .loop .i) _ _ _ (at-number .number .result) (at-number .number .ensures) (omega arith) _ (at-loop .loop .inv .7 h) (at-retain-in .retain-in .ensures .0) (c .before .retained2 .given .1)), record { laid = λ w k e. never-refused _ w k e; few = λ w k e. never-refused _ w k e; spare = λ w k c e s. never-refused _ w k e; still = λ j a b. bads-still-1 _ _ (start .args .at) (at-retain-in .retain-in .ensures .1) j a ∙ at-loop .loop .inv .6 j a b })
+    ((λ h. bads-stop (start .args .given .now) (start .args .dumps .now) (inputsIn (start .args .given .now) (start .args .call .now)) (repliesIn (start .args .given .now) (start .args .call .now)) (modeIn (start .args .call .now)) 0 (start .args .how) (start .args .bads .now) (at-loop .loop .result) (at-loop .loop .scratch) (start .args .at) (start .args .list) (at-loop .loop .walk) (at-loop .loop .kept) (at-loop .loop .i) _ _ _ (at-number .number .result) (at-number .number .ensures) (omega arith) _ (at-loop .loop .inv .7 h) (at-retain-in .retain-in .ensures .0) (c .before .retained2 .given .1)), record { laid = λ w k e. never-refused _ w k e; few = λ w k e. never-refused _ w k e; spare = λ w k c e s. never-refused _ w k e; still = λ j a b. bads-still-1 _ _ (start .args .at) (at-retain-in .retain-in .ensures .1) j a ∙ at-loop .loop .inv .6 j a b })
 
 add-i : tie.Need-add-i Inv-loop μ-loop
 add-i c =
@@ -101,7 +101,7 @@ loop-again c =
     let at-number = at-retain-in .before .before .before in
     let at-loop = at-number .before .before .before in
     let start = at-loop .before .before .before .before .before in
-    (omega arith, omega (arith, at-put-if .put-if .ensures .few, at-loop .loop .inv .1), at-retain-in .retain-in .kept .1 .0 ∙ at-loop .loop .inv .2, at-put-if .put-if .kept .0 ∙ at-retain-in .retain-in .kept .1 .1 .0 ∙ at-loop .loop .inv .3, (subst (λ z. Laid (start .args .given .now) (start .args .dumps .now) (inputsIn (start .args .given .now) (start .args .call .now)) (repliesIn (start .args .given .now) (start .args .call .now)) (minimiseIn (start .args .call .now)) (at-retain-in .retain-in .last .1 .0) z (at-retained .retained .given .0 .0)) (sym (take-front _ _ (start .args .at) (start .args .list) (start .pre .1 .1 .0) (at-put-if .put-if .ensures .front))) (laid-retained (start .args .given .now) (start .args .dumps .now) (inputsIn (start .args .given .now) (start .args .call .now)) (repliesIn (start .args .given .now) (start .args .call .now)) (minimiseIn (start .args .call .now)) (at-loop .loop .result) (take (start .args .at) (at-loop .loop .scratch)) (at-retain-in .retain-in .last .1 .0) (take (start .args .at) (at-retain-in .retain-in .last .1 .1 .0)) (at-loop .loop .walk) _ (start .args .how) (at-loop .loop .i) (at-number .number .result) (at-retain-in .retain-in .result) _ (at-loop .loop .inv .4) (subst (BadEntry (tableOf (start .args .given .now))) (sym (at-number .number .ensures)) (all-at (BadEntry (tableOf (start .args .given .now))) (start .args .bads .now) (start .pre .1 .0 .0) (at-loop .loop .i) (omega arith))) (at-retain-in .retain-in .ensures .0) (at-retained .retained .given .1) (at-retain-in .retain-in .kept .1 .0) (length-take-le (start .args .at) _ (omega (arith, start .pre .1 .1 .0, start .pre .1 .1 .1, at-loop .loop .inv .3, at-retain-in .retain-in .kept .1 .1 .0)) ∙ sym (length-take-le (start .args .at) _ (omega (arith, start .pre .1 .1 .0, start .pre .1 .1 .1, at-loop .loop .inv .3)))) (spare-less (start .args .given .now) (take (start .args .at) (at-loop .loop .scratch)) (at-loop .loop .walk) (length (start .args .bads .now) - (at-loop .loop .i) + 0) 1 (omega arith) (at-loop .loop .inv .5 0 (spare-less (start .args .given .now) (take (start .args .at) (start .args .scratch .now)) (start .args .walk) (length (start .args .bads .now)) (length (start .args .bads .now) + 0) (omega arith) (start .pre .1 .0 .1)))))), (λ d s. subst (λ z. Spare (start .args .given .now) z (at-retained .retained .given .0 .0) (length (start .args .bads .now) - ((at-loop .loop .i) + 1) + d)) (sym (take-front _ _ (start .args .at) (start .args .list) (start .pre .1 .1 .0) (at-put-if .put-if .ensures .front))) (spare-retained (start .args .given .now) (start .args .dumps .now) (inputsIn (start .args .given .now) (start .args .call .now)) (repliesIn (start .args .given .now) (start .args .call .now)) (minimiseIn (start .args .call .now)) (at-loop .loop .result) (take (start .args .at) (at-loop .loop .scratch)) (at-retain-in .retain-in .last .1 .0) (take (start .args .at) (at-retain-in .retain-in .last .1 .1 .0)) (at-loop .loop .walk) _ (start .args .how) (at-loop .loop .i) (at-number .number .result) (at-retain-in .retain-in .result) _ (at-loop .loop .inv .4) (subst (BadEntry (tableOf (start .args .given .now))) (sym (at-number .number .ensures)) (all-at (BadEntry (tableOf (start .args .given .now))) (start .args .bads .now) (start .pre .1 .0 .0) (at-loop .loop .i) (omega arith))) (at-retain-in .retain-in .ensures .0) (at-retained .retained .given .1) (length-take-le (start .args .at) _ (omega (arith, start .pre .1 .1 .0, start .pre .1 .1 .1, at-loop .loop .inv .3, at-retain-in .retain-in .kept .1 .1 .0)) ∙ sym (length-take-le (start .args .at) _ (omega (arith, start .pre .1 .1 .0, start .pre .1 .1 .1, at-loop .loop .inv .3)))) (length (start .args .bads .now) - ((at-loop .loop .i) + 1) + d) (spare-less (start .args .given .now) (take (start .args .at) (at-loop .loop .scratch)) (at-loop .loop .walk) (length (start .args .bads .now) - (at-loop .loop .i) + d) (length (start .args .bads .now) - ((at-loop .loop .i) + 1) + d + 1) (omega arith) (at-loop .loop .inv .5 d s)))), (λ j a b. bads-still _ _ _ (start .args .at) (start .args .list) (at-retain-in .retain-in .ensures .1) (at-put-if .put-if .ensures .front) j a b ∙ at-loop .loop .inv .6 j a b), λ h. bads-on (start .args .given .now) (start .args .dumps .now) (inputsIn (start .args .given .now) (start .args .call .now)) (repliesIn (start .args .given .now) (start .args .call .now)) (minimiseIn (start .args .call .now)) (start .args .how) (start .args .bads .now) (at-loop .loop .result) (at-loop .loop .scratch) (start .args .at) (start .args .list) (at-loop .loop .walk) (at-loop .loop .kept) (at-loop .loop .i) _ _ _ (at-number .number .result) (at-number .number .ensures) (omega arith) _ (at-loop .loop .inv .7 h) (at-retain-in .retain-in .ensures .0) (at-retained .retained .given .1) (at-retain-in .retain-in .ensures .1) (start .pre .1 .1 .0) (at-wide .wide .ensures) (at-put-if .put-if .ensures))
+    (omega arith, omega (arith, at-put-if .put-if .ensures .few, at-loop .loop .inv .1), at-retain-in .retain-in .kept .1 .0 ∙ at-loop .loop .inv .2, at-put-if .put-if .kept .0 ∙ at-retain-in .retain-in .kept .1 .1 .0 ∙ at-loop .loop .inv .3, (subst (λ z. Laid (start .args .given .now) (start .args .dumps .now) (inputsIn (start .args .given .now) (start .args .call .now)) (repliesIn (start .args .given .now) (start .args .call .now)) (modeIn (start .args .call .now)) 0 (at-retain-in .retain-in .last .1 .0) z (at-retained .retained .given .0 .0)) (sym (take-front _ _ (start .args .at) (start .args .list) (start .pre .1 .1 .0) (at-put-if .put-if .ensures .front))) (laid-retained (start .args .given .now) (start .args .dumps .now) (inputsIn (start .args .given .now) (start .args .call .now)) (repliesIn (start .args .given .now) (start .args .call .now)) (modeIn (start .args .call .now)) 0 (at-loop .loop .result) (take (start .args .at) (at-loop .loop .scratch)) (at-retain-in .retain-in .last .1 .0) (take (start .args .at) (at-retain-in .retain-in .last .1 .1 .0)) (at-loop .loop .walk) _ (start .args .how) (at-loop .loop .i) (at-number .number .result) (at-retain-in .retain-in .result) _ (at-loop .loop .inv .4) (subst (BadEntry (tableOf (start .args .given .now))) (sym (at-number .number .ensures)) (all-at (BadEntry (tableOf (start .args .given .now))) (start .args .bads .now) (start .pre .1 .0 .0) (at-loop .loop .i) (omega arith))) (at-retain-in .retain-in .ensures .0) (at-retained .retained .given .1) (at-retain-in .retain-in .kept .1 .0) (length-take-le (start .args .at) _ (omega (arith, start .pre .1 .1 .0, start .pre .1 .1 .1, at-loop .loop .inv .3, at-retain-in .retain-in .kept .1 .1 .0)) ∙ sym (length-take-le (start .args .at) _ (omega (arith, start .pre .1 .1 .0, start .pre .1 .1 .1, at-loop .loop .inv .3)))) (spare-less 0 (start .args .given .now) (take (start .args .at) (at-loop .loop .scratch)) (at-loop .loop .walk) (length (start .args .bads .now) - (at-loop .loop .i) + 0) 1 (omega arith) (at-loop .loop .inv .5 0 (spare-less 0 (start .args .given .now) (take (start .args .at) (start .args .scratch .now)) (start .args .walk) (length (start .args .bads .now)) (length (start .args .bads .now) + 0) (omega arith) (start .pre .1 .0 .1)))))), (λ d s. subst (λ z. Spare 0 (start .args .given .now) z (at-retained .retained .given .0 .0) (length (start .args .bads .now) - ((at-loop .loop .i) + 1) + d)) (sym (take-front _ _ (start .args .at) (start .args .list) (start .pre .1 .1 .0) (at-put-if .put-if .ensures .front))) (spare-retained (start .args .given .now) (start .args .dumps .now) (inputsIn (start .args .given .now) (start .args .call .now)) (repliesIn (start .args .given .now) (start .args .call .now)) (modeIn (start .args .call .now)) 0 (at-loop .loop .result) (take (start .args .at) (at-loop .loop .scratch)) (at-retain-in .retain-in .last .1 .0) (take (start .args .at) (at-retain-in .retain-in .last .1 .1 .0)) (at-loop .loop .walk) _ (start .args .how) (at-loop .loop .i) (at-number .number .result) (at-retain-in .retain-in .result) _ (at-loop .loop .inv .4) (subst (BadEntry (tableOf (start .args .given .now))) (sym (at-number .number .ensures)) (all-at (BadEntry (tableOf (start .args .given .now))) (start .args .bads .now) (start .pre .1 .0 .0) (at-loop .loop .i) (omega arith))) (at-retain-in .retain-in .ensures .0) (at-retained .retained .given .1) (length-take-le (start .args .at) _ (omega (arith, start .pre .1 .1 .0, start .pre .1 .1 .1, at-loop .loop .inv .3, at-retain-in .retain-in .kept .1 .1 .0)) ∙ sym (length-take-le (start .args .at) _ (omega (arith, start .pre .1 .1 .0, start .pre .1 .1 .1, at-loop .loop .inv .3)))) (length (start .args .bads .now) - ((at-loop .loop .i) + 1) + d) (spare-less 0 (start .args .given .now) (take (start .args .at) (at-loop .loop .scratch)) (at-loop .loop .walk) (length (start .args .bads .now) - (at-loop .loop .i) + d) (length (start .args .bads .now) - ((at-loop .loop .i) + 1) + d + 1) (omega arith) (at-loop .loop .inv .5 d s)))), (λ j a b. bads-still _ _ _ (start .args .at) (start .args .list) (at-retain-in .retain-in .ensures .1) (at-put-if .put-if .ensures .front) j a b ∙ at-loop .loop .inv .6 j a b), λ h. bads-on (start .args .given .now) (start .args .dumps .now) (inputsIn (start .args .given .now) (start .args .call .now)) (repliesIn (start .args .given .now) (start .args .call .now)) (modeIn (start .args .call .now)) 0 (start .args .how) (start .args .bads .now) (at-loop .loop .result) (at-loop .loop .scratch) (start .args .at) (start .args .list) (at-loop .loop .walk) (at-loop .loop .kept) (at-loop .loop .i) _ _ _ (at-number .number .result) (at-number .number .ensures) (omega arith) _ (at-loop .loop .inv .7 h) (at-retain-in .retain-in .ensures .0) (at-retained .retained .given .1) (at-retain-in .retain-in .ensures .1) (start .pre .1 .1 .0) (at-wide .wide .ensures) (at-put-if .put-if .ensures))
 
 same-length-3 : tie.Need-same-length-3 Inv-loop μ-loop
 same-length-3 c = c .before .loop .inv .2
@@ -112,7 +112,7 @@ same-length-4 c = c .before .loop .inv .3
 returns-2 : tie.Need-returns-2 Inv-loop μ-loop
 returns-2 c =
     let start = c .before .before .before .before .before .before in
-    ((λ h. bads-end (start .args .given .now) (inputsIn (start .args .given .now) (start .args .call .now)) (repliesIn (start .args .given .now) (start .args .call .now)) (waysBy (start .args .given .now) (start .args .dumps .now) (start .args .call .now)) (start .args .how) _ (start .args .bads .now) (c .before .loop .result) (c .before .loop .scratch) (start .args .at) (start .args .list) (c .before .loop .walk) (c .before .loop .kept) (c .before .loop .i) (omega arith) (c .before .loop .inv .7 h)), record { laid = laid-end _ _ _ _ _ _ _ _ (c .before .loop .kept) (c .before .loop .inv .4); few = few-end (c .before .loop .walk) (c .before .loop .kept) _ (omega arith); spare = λ w k d e s. spare-end (start .args .given .now) (take (start .args .at) (c .before .loop .scratch)) (c .before .loop .walk) (c .before .loop .kept) d w k e (spare-less (start .args .given .now) (take (start .args .at) (c .before .loop .scratch)) (c .before .loop .walk) (length (start .args .bads .now) - (c .before .loop .i) + d) d (omega arith) (c .before .loop .inv .5 d s)); still = c .before .loop .inv .6 })
+    ((λ h. bads-end (start .args .given .now) (inputsIn (start .args .given .now) (start .args .call .now)) (repliesIn (start .args .given .now) (start .args .call .now)) (waysBy (start .args .given .now) (start .args .dumps .now) (start .args .call .now)) (start .args .how) _ (start .args .bads .now) (c .before .loop .result) (c .before .loop .scratch) (start .args .at) (start .args .list) (c .before .loop .walk) (c .before .loop .kept) (c .before .loop .i) (omega arith) (c .before .loop .inv .7 h)), record { laid = laid-end _ _ _ _ _ _ _ _ _ (c .before .loop .kept) (c .before .loop .inv .4); few = few-end (c .before .loop .walk) (c .before .loop .kept) _ (omega arith); spare = λ w k d e s. spare-end 0 (start .args .given .now) (take (start .args .at) (c .before .loop .scratch)) (c .before .loop .walk) (c .before .loop .kept) d w k e (spare-less 0 (start .args .given .now) (take (start .args .at) (c .before .loop .scratch)) (c .before .loop .walk) (length (start .args .bads .now) - (c .before .loop .i) + d) d (omega arith) (c .before .loop .inv .5 d s)); still = c .before .loop .inv .6 })
 
 pub judge-bads-spec : {M : Type 1} → statement M
 judge-bads-spec = tie.close (tie.spec Inv-loop μ-loop loop-holds mul-number shared-slice-read-number number-requires retain-in-requires enum-known-retained wide-requires put-if-requires enum-known-retained-2 same-length same-length-2 returns add-i loop-less loop-again same-length-3 same-length-4 returns-2)

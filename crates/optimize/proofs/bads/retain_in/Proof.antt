@@ -8,7 +8,7 @@ use lib.ListN.{take}
 use Rattle.optimize.specs.Laid.{Laid}
 use Rattle.optimize.specs.Bads.{Spare, Retains, retainRule}
 use Rattle.optimize.proofs.Entries.{part-front, part-rest, part-whole, zero-less}
-use Rattle.optimize.specs.CallWords.{inputsIn, repliesIn, minimiseIn, waysBy}
+use Rattle.optimize.specs.CallWords.{inputsIn, repliesIn, modeIn, waysBy}
 use Rattle.optimize.proofs.bads.retain_in.Statement.{statement}
 use Rattle.optimize.proofs.bads.retain_in.Tie as tie
 
@@ -24,7 +24,7 @@ part-should-retain-bad-state-end c = search needs
 should-retain-bad-state-requires : tie.Need-should-retain-bad-state-requires
 should-retain-bad-state-requires c κs =
     let start = c .before .before .before .before .before in
-    (subst (λ z. Laid (start .args .given .now) (start .args .dumps .now) (inputsIn (start .args .given .now) (start .args .call .now)) (repliesIn (start .args .given .now) (start .args .call .now)) (minimiseIn (start .args .call .now)) (start .args .result .now) (take z (start .args .scratch .now)) (start .args .walk)) (zero-less (start .args .at)) (start .pre .0), (start .pre .1 .1, subst (λ z. Spare (start .args .given .now) (take z (start .args .scratch .now)) (start .args .walk) 1) (zero-less (start .args .at)) (start .pre .1 .2)))
+    (subst (λ z. Laid (start .args .given .now) (start .args .dumps .now) (inputsIn (start .args .given .now) (start .args .call .now)) (repliesIn (start .args .given .now) (start .args .call .now)) (modeIn (start .args .call .now)) 0 (start .args .result .now) (take z (start .args .scratch .now)) (start .args .walk)) (zero-less (start .args .at)) (start .pre .0), (start .pre .1 .1, subst (λ z. Spare 0 (start .args .given .now) (take z (start .args .scratch .now)) (start .args .walk) 1) (zero-less (start .args .at)) (start .pre .1 .2)))
 
 same-length : tie.Need-same-length
 same-length c = search needs

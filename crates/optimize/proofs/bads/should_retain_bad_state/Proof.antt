@@ -9,7 +9,7 @@ use Rattle.optimize.specs.View.{view}
 use Rattle.optimize.proofs.Entries.{laid-visited}
 use Rattle.optimize.proofs.BadLaws.{retain-done, retain-refused, spare-visited}
 use Rattle.optimize.proofs.CallLaws.{retained-by}
-use Rattle.optimize.specs.CallWords.{inputsIn, repliesIn, minimiseIn, waysBy}
+use Rattle.optimize.specs.CallWords.{inputsIn, repliesIn, modeIn, waysBy}
 use Rattle.optimize.proofs.bads.should_retain_bad_state.Statement.{statement}
 use Rattle.optimize.proofs.bads.should_retain_bad_state.Tie as tie
 
@@ -35,7 +35,7 @@ judge-bad-requires c κs =
     let at-visited = c .before .before .before .before .before .before in
     let at-visit-entry = at-visited .before .before .before .before .before .before in
     let start = at-visit-entry .before .before .before .before .before .before in
-    let k = (laid-visited _ _ _ _ _ _ _ _ _ _ _ _ _ _ (start .pre .0) (start .pre .1 .0) (at-visit-entry .visit-entry .ensures) (at-visited .visited .given .1) (at-visit-entry .visit-entry .kept .1 .0) (at-visit-entry .visit-entry .kept .1 .1 .0)) in ((omega (arith, k .whole), k .small), ((k .room, omega (arith, k .few)), omega (arith, (spare-visited _ _ _ _ _ _ _ _ _ _ _ _ _ 1 _ (start .pre .0) (start .pre .1 .0) (at-visit-entry .visit-entry .ensures) (at-visited .visited .given .1) (at-visit-entry .visit-entry .kept .1 .1 .0) (start .pre .1 .1)))))
+    let k = (laid-visited _ _ _ _ _ _ _ _ _ _ _ _ _ _ _ (start .pre .0) (start .pre .1 .0) (at-visit-entry .visit-entry .ensures) (at-visited .visited .given .1) (at-visit-entry .visit-entry .kept .1 .0) (at-visit-entry .visit-entry .kept .1 .1 .0)) in ((omega (arith, k .whole), k .small), ((k .room, omega (arith, k .few)), omega (arith, (spare-visited _ _ _ _ _ _ _ _ _ _ _ _ _ _ 1 _ (start .pre .0) (start .pre .1 .0) (at-visit-entry .visit-entry .ensures) (at-visited .visited .given .1) (at-visit-entry .visit-entry .kept .1 .1 .0) (start .pre .1 .1)))))
 
 enum-known-visited-2 : tie.Need-enum-known-visited-2
 enum-known-visited-2 c = search needs
@@ -59,7 +59,7 @@ returns c =
     let at-visited = at-operand .before .before .before in
     let at-visit-entry = at-visited .before .before .before .before .before .before in
     let start = at-visit-entry .before .before .before .before .before .before in
-    λ h. let m = at-visit-entry .visit-entry .ensures h ((start .args .bad) + 1) (omega arith) in (m .0, retained-by (m .0) (start .args .given .now) (inputsIn (start .args .given .now) (start .args .call .now)) _ _ _ _ _ (start .args .dumps .now) (minimiseIn (start .args .call .now)) (start .args .how) (start .args .place) _ _ _ _ (at-replies-in .replies-in .ensures) (at-judge-bad .judge-bad .ensures (m .0) (inputsIn (start .args .given .now) (start .args .call .now)) (start .args .dumps .now) (minimiseIn (start .args .call .now))) ∙ retain-done (start .args .given .now) (inputsIn (start .args .given .now) (start .args .call .now)) (repliesIn (start .args .given .now) (start .args .call .now)) (waysBy (start .args .given .now) (start .args .dumps .now) (start .args .call .now)) (start .args .how) (start .args .place) (start .args .bad) (view h (start .args .given .now) (inputsIn (start .args .given .now) (start .args .call .now)) (repliesIn (start .args .given .now) (start .args .call .now)) (start .args .result .now) (start .args .scratch .now) (start .args .walk)) _ _ _ m _ _ (at-visited .visited .given .1) (start .pre .1 .0) _ (at-operand .operand .ensures))
+    λ h. let m = at-visit-entry .visit-entry .ensures h ((start .args .bad) + 1) (omega arith) in (m .0, retained-by (m .0) (start .args .given .now) (inputsIn (start .args .given .now) (start .args .call .now)) _ _ _ _ _ (start .args .dumps .now) (modeIn (start .args .call .now)) (start .args .how) (start .args .place) _ _ _ _ (at-replies-in .replies-in .ensures) (at-judge-bad .judge-bad .ensures (m .0) (inputsIn (start .args .given .now) (start .args .call .now)) (start .args .dumps .now) (modeIn (start .args .call .now))) ∙ retain-done (start .args .given .now) (inputsIn (start .args .given .now) (start .args .call .now)) (repliesIn (start .args .given .now) (start .args .call .now)) (waysBy (start .args .given .now) (start .args .dumps .now) (start .args .call .now)) (start .args .how) (start .args .place) (start .args .bad) (view h (start .args .given .now) (inputsIn (start .args .given .now) (start .args .call .now)) (repliesIn (start .args .given .now) (start .args .call .now)) (start .args .result .now) (start .args .scratch .now) (start .args .walk)) _ _ _ m _ _ (at-visited .visited .given .1) (start .pre .1 .0) _ (at-operand .operand .ensures))
 
 same-length-3 : tie.Need-same-length-3
 same-length-3 c =

@@ -14,12 +14,12 @@ use Rattle.optimize.specs.Laid.{Laid}
 use Rattle.optimize.specs.Lists.{entriesOf}
 use lib.Seq.{length-take-le}
 use Rattle.optimize.proofs.Entries.{all-at, entries-length, entry-at, same-entry, visits-on, visits-stop, visits-end, laid-visited, refused-never, done-walk}
-use Rattle.optimize.specs.CallWords.{inputsIn, repliesIn, minimiseIn, waysBy}
+use Rattle.optimize.specs.CallWords.{inputsIn, repliesIn, modeIn, waysBy}
 use Rattle.optimize.proofs.lists.visit_all.Statement.{statement}
 use Rattle.optimize.proofs.lists.visit_all.Tie as tie
 
 abbrev Inv-loop : tie.InvT-loop
-Inv-loop given result₀ scratch₀ dumps call at count walk₀ i₀ result scratch walk i = (i ≤ count) × (length result ≡ length result₀) × (length scratch ≡ length scratch₀) × (drop at scratch ≡ drop at scratch₀) × Laid given dumps (inputsIn given call) (repliesIn given call) (minimiseIn call) result (take at scratch) walk × ((h : List Held) → (h′ : List Held) × (visitAll (tableOf given) (waysBy given dumps call) (view h given (inputsIn given call) (repliesIn given call) result₀ (take at scratch₀) walk₀) (entriesOf scratch₀ at count) ≡ visitAll (tableOf given) (waysBy given dumps call) (view h′ given (inputsIn given call) (repliesIn given call) result (take at scratch) walk) (drop i (entriesOf scratch₀ at count))))
+Inv-loop given result₀ scratch₀ dumps call at count walk₀ i₀ result scratch walk i = (i ≤ count) × (length result ≡ length result₀) × (length scratch ≡ length scratch₀) × (drop at scratch ≡ drop at scratch₀) × Laid given dumps (inputsIn given call) (repliesIn given call) (modeIn call) 0 result (take at scratch) walk × ((h : List Held) → (h′ : List Held) × (visitAll (tableOf given) (waysBy given dumps call) (view h given (inputsIn given call) (repliesIn given call) result₀ (take at scratch₀) walk₀) (entriesOf scratch₀ at count) ≡ visitAll (tableOf given) (waysBy given dumps call) (view h′ given (inputsIn given call) (repliesIn given call) result (take at scratch) walk) (drop i (entriesOf scratch₀ at count))))
 
 abbrev μ-loop : tie.MeasureT-loop
 μ-loop given result₀ scratch₀ dumps call at count walk₀ i₀ result scratch walk i = count - i
@@ -86,7 +86,7 @@ loop-again c =
     let at-number = at-visit-in .before .before .before in
     let at-loop = at-number .before .before .before in
     let start = at-loop .before .before .before .before in
-    (omega arith, at-visit-in .visit-in .kept .1 .0 ∙ at-loop .loop .inv .1, at-visit-in .visit-in .kept .1 .1 .0 ∙ at-loop .loop .inv .2, at-visit-in .visit-in .ensures .1 ∙ at-loop .loop .inv .3, (laid-visited _ _ _ _ _ _ _ _ _ _ _ _ _ _ (at-loop .loop .inv .4) (subst (λ z. z < countOf (start .args .given .now)) (sym (at-number .number .ensures ∙ same-entry (start .args .scratch .now) (at-loop .loop .scratch) (start .args .at) (at-loop .loop .inv .3) (at-loop .loop .i) ∙ sym (entry-at (start .args .scratch .now) (start .args .at) (start .args .count) (start .pre .0) (at-loop .loop .i) (omega arith)))) (all-at (λ z. z < countOf (start .args .given .now)) (entriesOf (start .args .scratch .now) (start .args .at) (start .args .count)) (start .pre .1 .1) (at-loop .loop .i) (omega (arith, (entries-length (start .args .scratch .now) (start .args .at) (start .args .count) (start .pre .0)))))) (at-visit-in .visit-in .ensures .0) (c .before .visited .given .1) (at-visit-in .visit-in .kept .1 .0) (length-take-le (start .args .at) _ (omega (arith, start .pre .0, at-visit-in .visit-in .kept .1 .1 .0, at-loop .loop .inv .2)) ∙ sym (length-take-le (start .args .at) _ (omega (arith, start .pre .0, at-loop .loop .inv .2))))), λ h. let p = at-loop .loop .inv .5 h in ((at-visit-in .visit-in .ensures .0 (p .0) (at-number .number .result + 1) (omega arith)) .0, visits-on (start .args .given .now) (inputsIn (start .args .given .now) (start .args .call .now)) (repliesIn (start .args .given .now) (start .args .call .now)) (waysBy (start .args .given .now) (start .args .dumps .now) (start .args .call .now)) _ (entriesOf (start .args .scratch .now) (start .args .at) (start .args .count)) (at-loop .loop .result) (take (start .args .at) (at-loop .loop .scratch)) (at-loop .loop .walk) (at-loop .loop .i) (at-number .number .result) (p .0) (at-number .number .ensures ∙ same-entry (start .args .scratch .now) (at-loop .loop .scratch) (start .args .at) (at-loop .loop .inv .3) (at-loop .loop .i) ∙ sym (entry-at (start .args .scratch .now) (start .args .at) (start .args .count) (start .pre .0) (at-loop .loop .i) (omega arith))) (omega (arith, (entries-length (start .args .scratch .now) (start .args .at) (start .args .count) (start .pre .0)))) (p .1) _ _ _ _ _ (at-visit-in .visit-in .ensures .0 (p .0) (at-number .number .result + 1) (omega arith)) (c .before .visited .given .1)))
+    (omega arith, at-visit-in .visit-in .kept .1 .0 ∙ at-loop .loop .inv .1, at-visit-in .visit-in .kept .1 .1 .0 ∙ at-loop .loop .inv .2, at-visit-in .visit-in .ensures .1 ∙ at-loop .loop .inv .3, (laid-visited _ _ _ _ _ _ _ _ _ _ _ _ _ _ _ (at-loop .loop .inv .4) (subst (λ z. z < countOf (start .args .given .now)) (sym (at-number .number .ensures ∙ same-entry (start .args .scratch .now) (at-loop .loop .scratch) (start .args .at) (at-loop .loop .inv .3) (at-loop .loop .i) ∙ sym (entry-at (start .args .scratch .now) (start .args .at) (start .args .count) (start .pre .0) (at-loop .loop .i) (omega arith)))) (all-at (λ z. z < countOf (start .args .given .now)) (entriesOf (start .args .scratch .now) (start .args .at) (start .args .count)) (start .pre .1 .1) (at-loop .loop .i) (omega (arith, (entries-length (start .args .scratch .now) (start .args .at) (start .args .count) (start .pre .0)))))) (at-visit-in .visit-in .ensures .0) (c .before .visited .given .1) (at-visit-in .visit-in .kept .1 .0) (length-take-le (start .args .at) _ (omega (arith, start .pre .0, at-visit-in .visit-in .kept .1 .1 .0, at-loop .loop .inv .2)) ∙ sym (length-take-le (start .args .at) _ (omega (arith, start .pre .0, at-loop .loop .inv .2))))), λ h. let p = at-loop .loop .inv .5 h in ((at-visit-in .visit-in .ensures .0 (p .0) (at-number .number .result + 1) (omega arith)) .0, visits-on (start .args .given .now) (inputsIn (start .args .given .now) (start .args .call .now)) (repliesIn (start .args .given .now) (start .args .call .now)) (waysBy (start .args .given .now) (start .args .dumps .now) (start .args .call .now)) _ (entriesOf (start .args .scratch .now) (start .args .at) (start .args .count)) (at-loop .loop .result) (take (start .args .at) (at-loop .loop .scratch)) (at-loop .loop .walk) (at-loop .loop .i) (at-number .number .result) (p .0) (at-number .number .ensures ∙ same-entry (start .args .scratch .now) (at-loop .loop .scratch) (start .args .at) (at-loop .loop .inv .3) (at-loop .loop .i) ∙ sym (entry-at (start .args .scratch .now) (start .args .at) (start .args .count) (start .pre .0) (at-loop .loop .i) (omega arith))) (omega (arith, (entries-length (start .args .scratch .now) (start .args .at) (start .args .count) (start .pre .0)))) (p .1) _ _ _ _ _ (at-visit-in .visit-in .ensures .0 (p .0) (at-number .number .result + 1) (omega arith)) (c .before .visited .given .1)))
 
 same-length-3 : tie.Need-same-length-3 Inv-loop μ-loop
 same-length-3 c = c .before .loop .inv .1
@@ -97,7 +97,7 @@ same-length-4 c = c .before .loop .inv .2
 returns-2 : tie.Need-returns-2 Inv-loop μ-loop
 returns-2 c =
     let start = c .before .before .before .before .before in
-    ((λ h. let p = c .before .loop .inv .5 h in (p .0, visits-end (start .args .given .now) (inputsIn (start .args .given .now) (start .args .call .now)) (repliesIn (start .args .given .now) (start .args .call .now)) (waysBy (start .args .given .now) (start .args .dumps .now) (start .args .call .now)) _ (entriesOf (start .args .scratch .now) (start .args .at) (start .args .count)) _ _ (c .before .loop .walk) (c .before .loop .i) (p .0) (omega (arith, (entries-length (start .args .scratch .now) (start .args .at) (start .args .count) (start .pre .0)))) (p .1))), ((λ w e. subst (λ z. Laid (start .args .given .now) (start .args .dumps .now) (inputsIn (start .args .given .now) (start .args .call .now)) (repliesIn (start .args .given .now) (start .args .call .now)) (minimiseIn (start .args .call .now)) (c .before .loop .result) (take (start .args .at) (c .before .loop .scratch)) z) (done-walk _ w e) (c .before .loop .inv .4)), c .before .loop .inv .3))
+    ((λ h. let p = c .before .loop .inv .5 h in (p .0, visits-end (start .args .given .now) (inputsIn (start .args .given .now) (start .args .call .now)) (repliesIn (start .args .given .now) (start .args .call .now)) (waysBy (start .args .given .now) (start .args .dumps .now) (start .args .call .now)) _ (entriesOf (start .args .scratch .now) (start .args .at) (start .args .count)) _ _ (c .before .loop .walk) (c .before .loop .i) (p .0) (omega (arith, (entries-length (start .args .scratch .now) (start .args .at) (start .args .count) (start .pre .0)))) (p .1))), ((λ w e. subst (λ z. Laid (start .args .given .now) (start .args .dumps .now) (inputsIn (start .args .given .now) (start .args .call .now)) (repliesIn (start .args .given .now) (start .args .call .now)) (modeIn (start .args .call .now)) 0 (c .before .loop .result) (take (start .args .at) (c .before .loop .scratch)) z) (done-walk _ w e) (c .before .loop .inv .4)), c .before .loop .inv .3))
 
 pub visit-all-spec : {M : Type 1} → statement M
 visit-all-spec = tie.close (tie.spec Inv-loop μ-loop loop-holds add-number mul-number slice-read-number number-requires visit-in-requires enum-known-visited enum-known-visited-2 same-length same-length-2 returns add-i loop-less loop-again same-length-3 same-length-4 returns-2)

@@ -9,7 +9,7 @@ use Rattle.optimize.specs.View.{view, Meets}
 use Rattle.optimize.specs.Process.{visitOf}
 use Rattle.optimize.specs.Laid.{Laid}
 use Rattle.optimize.proofs.Entries.{part-front, part-rest, part-whole, zero-less}
-use Rattle.optimize.specs.CallWords.{inputsIn, repliesIn, minimiseIn, waysBy}
+use Rattle.optimize.specs.CallWords.{inputsIn, repliesIn, modeIn, waysBy}
 use Rattle.optimize.proofs.lists.visit_in.Statement.{statement}
 use Rattle.optimize.proofs.lists.visit_in.Tie as tie
 
@@ -25,7 +25,7 @@ part-visit-entry-end c = search needs
 visit-entry-requires : tie.Need-visit-entry-requires
 visit-entry-requires c κs =
     let start = c .before .before .before .before .before in
-    (subst (λ z. Laid (start .args .given .now) (start .args .dumps .now) (inputsIn (start .args .given .now) (start .args .call .now)) (repliesIn (start .args .given .now) (start .args .call .now)) (minimiseIn (start .args .call .now)) (start .args .result .now) (take z (start .args .scratch .now)) (start .args .walk)) (zero-less (start .args .at)) (start .pre .1), start .pre .0 .1)
+    (subst (λ z. Laid (start .args .given .now) (start .args .dumps .now) (inputsIn (start .args .given .now) (start .args .call .now)) (repliesIn (start .args .given .now) (start .args .call .now)) (modeIn (start .args .call .now)) 0 (start .args .result .now) (take z (start .args .scratch .now)) (start .args .walk)) (zero-less (start .args .at)) (start .pre .1), start .pre .0 .1)
 
 same-length : tie.Need-same-length
 same-length c = search needs

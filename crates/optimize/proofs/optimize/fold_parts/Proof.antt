@@ -1,18 +1,14 @@
--- The walk runs on the parts, in the mode that its three bits say.
+-- The walk runs on the parts, in the mode that the last word says.
 -- Assumes nothing.
 use borrow.Author.Needs.{needs}
 use Rattle.optimize.specs.CallWords.{inputsIn, repliesIn}
 use Rattle.optimize.specs.Entries.{RunnableParts, modelParts}
 use Rattle.optimize.proofs.EntryLaws.{run-mode}
-use mathlib.Core.Path.{_∙_}
 use Rattle.optimize.proofs.optimize.fold_parts.Statement.{statement}
 use Rattle.optimize.proofs.optimize.fold_parts.Tie as tie
 
-adds-requires : tie.Need-adds-requires
-adds-requires c κs = search needs
-
-as-word-requires : tie.Need-as-word-requires
-as-word-requires c κs = search needs
+number-requires : tie.Need-number-requires
+number-requires c κs = search needs
 
 mul-run : tie.Need-mul-run
 mul-run c = search needs
@@ -50,16 +46,10 @@ part-run-start-3 c = search needs
 part-run-end-3 : tie.Need-part-run-end-3
 part-run-end-3 c = search needs
 
-adds-requires-2 : tie.Need-adds-requires-2
-adds-requires-2 c κs = search needs
-
-adds-requires-3 : tie.Need-adds-requires-3
-adds-requires-3 c κs = search needs
-
 run-requires : tie.Need-run-requires
 unfolding RunnableParts inputsIn repliesIn
 run-requires c κs =
-    let start = c .before .before .before .before .before .before .before .before .before .before .before .before .before in
+    let start = c .before .before .before .before .before .before .before .before .before .before in
     start .pre .1
 
 same-length : tie.Need-same-length
@@ -72,12 +62,9 @@ returns : tie.Need-returns
 unfolding modelParts inputsIn repliesIn
 returns c =
     let at-run = c .before .before .before .before in
-    let at-adds3 = at-run .before .before .before .before in
-    let at-adds2 = at-adds3 .before in
-    let at-as-word = at-adds2 .before .before .before .before in
-    let at-adds = at-as-word .before in
-    let start = at-adds .before .before .before .before in
-    run-mode _ (start .args .mode) _ _ _ _ _ _ (at-adds2 .adds2 .ensures) (at-adds3 .adds3 .ensures) (at-as-word .as-word .ensures ∙ at-adds .adds .ensures) (at-run .run .ensures)
+    let at-number = at-run .before .before .before .before .before .before .before in
+    let start = at-number .before .before .before .before in
+    run-mode _ (start .args .mode) _ _ _ _ (at-number .number .ensures) (at-run .run .ensures)
 
 pub fold-parts-spec : {M : Type 1} → statement M
-fold-parts-spec = tie.close (tie.spec adds-requires as-word-requires mul-run sub-run part-run-start part-run-end mul-run-2 sub-run-2 part-run-start-2 part-run-end-2 mul-run-3 sub-run-3 part-run-start-3 part-run-end-3 adds-requires-2 adds-requires-3 run-requires same-length same-length-2 returns)
+fold-parts-spec = tie.close (tie.spec number-requires mul-run sub-run part-run-start part-run-end mul-run-2 sub-run-2 part-run-start-2 part-run-end-2 mul-run-3 sub-run-3 part-run-start-3 part-run-end-3 run-requires same-length same-length-2 returns)

@@ -9,21 +9,24 @@ use Rattle.optimize.proofs.BadsJoined.{judged-refused, judged-done, lis
 use Rattle.optimize.proofs.run.fold_bads.Statement.{statement}
 use Rattle.optimize.proofs.run.fold_bads.Tie as tie
 
+terminates-requires : tie.Need-terminates-requires
+terminates-requires c κs = search needs
+
 add-second : tie.Need-add-second
 add-second c =
-    let start = c .before .before .before .before .before .before in
+    let start = c .before .before .before .before .before .before .before in
     let u = start .pre in
     omega (arith, lists-fit _ _ _ _ _ _ _ _ _ _ _ _ _ u)
 
 add-third : tie.Need-add-third
 add-third c =
-    let start = c .before .before .before .before .before .before in
+    let start = c .before .before .before .before .before .before .before in
     let u = start .pre in
     omega (arith, lists-fit _ _ _ _ _ _ _ _ _ _ _ _ _ u)
 
 judge-bads-requires : tie.Need-judge-bads-requires
 judge-bads-requires c κs =
-    let start = c .before .before .before .before .before .before .before .before in
+    let start = c .before .before .before .before .before .before .before .before .before in
     let u = start .pre in
     (u .laid, ((u .runnable .legal .initial, omega (arith, u .spare)), (omega arith, omega (arith, lists-fit _ _ _ _ _ _ _ _ _ _ _ _ _ u))))
 
@@ -37,7 +40,7 @@ judge-bads-requires-2 : tie.Need-judge-bads-requires-2
 judge-bads-requires-2 c κs =
     let at-first2 = c .before .before .before in
     let at-judge-bads = at-first2 .before .before .before .before .before .before in
-    let start = at-judge-bads .before .before .before .before .before .before .before .before .before in
+    let start = at-judge-bads .before .before .before .before .before .before .before .before .before .before in
     let u = start .pre in
     let left = at-judge-bads .judge-bads .ensures .1 in
     let S-same = at-judge-bads .judge-bads .kept .1 .1 .1 .0 in
@@ -56,7 +59,7 @@ write-call-requires c κs =
     let at-judge-bads2 = at-last2 .before .before .before .before .before .before in
     let at-first2 = at-judge-bads2 .before .before .before .before in
     let at-judge-bads = at-first2 .before .before .before .before .before .before in
-    let start = at-judge-bads .before .before .before .before .before .before .before .before .before in
+    let start = at-judge-bads .before .before .before .before .before .before .before .before .before .before in
     let u = start .pre in
     let left = at-judge-bads .judge-bads .ensures .1 in
     let then-left = at-judge-bads2 .judge-bads2 .ensures .1 in
@@ -75,10 +78,11 @@ same-length-2 c = search needs
 returns : tie.Need-returns
 returns c =
     let at-judge-bads = c .before .before .before .before .before .before .before in
-    let start = at-judge-bads .before .before .before .before .before .before .before .before .before in
+    let at-terminates = at-judge-bads .before .before .before in
+    let start = at-terminates .before .before .before .before .before .before .before in
     let u = start .pre in
     let with-first = at-judge-bads .judge-bads .ensures .0 in
-    λ h. let p = with-first h in first-ends _ _ _ _ _ _ _ _ _ _ _ _ _ u (start .args .terminate) _ _ _ _ (judged-refused _ _ _ _ _ _ _ _ _ _ _ (p .2) _ (c .before .first .given .1))
+    λ h. let p = with-first h in first-ends _ _ _ _ _ _ _ _ _ _ _ _ _ u _ (at-terminates .terminates .ensures) _ _ _ _ (judged-refused _ _ _ _ _ _ _ _ _ _ _ (p .2) _ (c .before .first .given .1))
 
 same-length-3 : tie.Need-same-length-3
 same-length-3 c = search needs
@@ -91,11 +95,12 @@ returns-2 c =
     let at-judge-bads2 = c .before .before .before .before .before .before .before in
     let at-first2 = at-judge-bads2 .before .before .before .before in
     let at-judge-bads = at-first2 .before .before .before .before .before .before in
-    let start = at-judge-bads .before .before .before .before .before .before .before .before .before in
+    let at-terminates = at-judge-bads .before .before .before in
+    let start = at-terminates .before .before .before .before .before .before .before in
     let u = start .pre in
     let with-first = at-judge-bads .judge-bads .ensures .0 in
     let with-last = at-judge-bads2 .judge-bads2 .ensures .0 in
-    λ h. let p = with-first h in let q = with-last (p .0) in later-ends _ _ _ _ _ _ _ _ _ _ _ _ _ u (start .args .terminate) _ _ _ _ _ (judged-done _ _ _ _ _ _ _ _ _ _ _ (p .2) _ _ (at-first2 .first2 .given .1)) (judged-refused _ _ _ _ _ _ _ _ _ _ _ (q .2) _ (c .before .last .given .1))
+    λ h. let p = with-first h in let q = with-last (p .0) in later-ends _ _ _ _ _ _ _ _ _ _ _ _ _ u _ (at-terminates .terminates .ensures) _ _ _ _ _ (judged-done _ _ _ _ _ _ _ _ _ _ _ (p .2) _ _ (at-first2 .first2 .given .1)) (judged-refused _ _ _ _ _ _ _ _ _ _ _ (q .2) _ (c .before .last .given .1))
 
 same-length-5 : tie.Need-same-length-5
 same-length-5 c =
@@ -115,7 +120,8 @@ returns-3 c =
     let at-judge-bads2 = at-last2 .before .before .before .before .before .before in
     let at-first2 = at-judge-bads2 .before .before .before .before in
     let at-judge-bads = at-first2 .before .before .before .before .before .before in
-    let start = at-judge-bads .before .before .before .before .before .before .before .before .before in
+    let at-terminates = at-judge-bads .before .before .before in
+    let start = at-terminates .before .before .before .before .before .before .before in
     let u = start .pre in
     let left = at-judge-bads .judge-bads .ensures .1 in
     let then-left = at-judge-bads2 .judge-bads2 .ensures .1 in
@@ -126,7 +132,7 @@ returns-3 c =
     let Q-same = at-judge-bads2 .judge-bads2 .kept .1 .1 .0 ∙ at-judge-bads .judge-bads .kept .1 .1 .0 in
     let spare-1 = left .spare _ _ (length (start .args .later .now) + 1) (at-first2 .first2 .given .1) (u .spare) in
     let spare-2 = then-left .spare _ _ 1 (at-last2 .last2 .given .1) spare-1 in
-    λ h. let p = with-first h in let q = with-last (p .0) in both-ended _ _ _ _ _ _ _ _ _ _ _ _ _ u (start .args .terminate) _ _ _ _ (p .0) (q .0) (p .1) (q .1) _ _ _ _ _ _ _ _ (judged-done _ _ _ _ _ _ _ _ _ _ _ (p .2) _ _ (at-first2 .first2 .given .1)) (judged-done _ _ _ _ _ _ _ _ _ _ _ (q .2) _ _ (at-last2 .last2 .given .1)) (left .still) (then-left .still) S-same T-same (left .few _ _ (at-first2 .first2 .given .1)) spare-2 (at-write-call .write-call .ensures (q .0) _ _ (model-of _ _ _ _ _ _ _ _ _ _ _ _ _ u)) Q-same
+    λ h. let p = with-first h in let q = with-last (p .0) in both-ended _ _ _ _ _ _ _ _ _ _ _ _ _ u _ (at-terminates .terminates .ensures) _ _ _ _ (p .0) (q .0) (p .1) (q .1) _ _ _ _ _ _ _ _ (judged-done _ _ _ _ _ _ _ _ _ _ _ (p .2) _ _ (at-first2 .first2 .given .1)) (judged-done _ _ _ _ _ _ _ _ _ _ _ (q .2) _ _ (at-last2 .last2 .given .1)) (left .still) (then-left .still) S-same T-same (left .few _ _ (at-first2 .first2 .given .1)) spare-2 (at-write-call .write-call .ensures (q .0) _ _ (model-of _ _ _ _ _ _ _ _ _ _ _ _ _ u)) Q-same
 
 pub fold-bads-spec : {M : Type 1} → statement M
-fold-bads-spec = tie.close (tie.spec add-second add-third judge-bads-requires enum-known-first enum-known-first-2 judge-bads-requires-2 enum-known-last enum-known-last-2 write-call-requires same-length same-length-2 returns same-length-3 same-length-4 returns-2 same-length-5 same-length-6 returns-3)
+fold-bads-spec = tie.close (tie.spec terminates-requires add-second add-third judge-bads-requires enum-known-first enum-known-first-2 judge-bads-requires-2 enum-known-last enum-known-last-2 write-call-requires same-length same-length-2 returns same-length-3 same-length-4 returns-2 same-length-5 same-length-6 returns-3)

@@ -5,11 +5,11 @@ use mathlib.Core.Path.{refl, _∙_}
 use native.Mathlib.Omega.{arith}
 use Prim.Native.Nat.{_+_}
 use lib.ListN.{length}
-use Rattle.optimize.specs.Runs.{modelIn, modeIn}
+use Rattle.optimize.specs.Runs.{modelIn}
 use mathlib.Core.Bool.{true}
 use Rattle.optimize.proofs.BadsJoined.{judged-refused, judged-done, lists-fit, model-of}
 use Rattle.optimize.proofs.OnceJoined.{spare-place, before-place, answered-refused, answered-done, last-made, last-asks, once-ended, once-first, once-last, once-done}
-use Rattle.optimize.specs.CallWords.{inputsIn, repliesIn, minimiseIn}
+use Rattle.optimize.specs.CallWords.{inputsIn, repliesIn, modeIn}
 use Rattle.optimize.proofs.run.fold_once.Statement.{statement}
 use Rattle.optimize.proofs.run.fold_once.Tie as tie
 
@@ -85,11 +85,11 @@ write-call-requires c κs =
     let spare-1 = left .spare _ _ (length (start .args .later .now) + 1) (at-first2 .first2 .given .1) (u .spare) in
     let g = start .args .given .now in
     let m = modelIn g (start .args .dumps .now) (start .args .sequentials .now) (start .args .initial .now) (start .args .later .now) (inputsIn (start .args .given .now) (start .args .call .now)) (repliesIn (start .args .given .now) (start .args .call .now)) in
-    let how = modeIn (minimiseIn (start .args .call .now)) (start .args .terminate) true in
+    let how = modeIn (start .args .call .now) in
     let last-1 = answered-done _ _ _ _ _ _ _ _ (at-put-last-question .put-last-question .ensures .0 (laid-1 .held) (inputsIn (start .args .given .now) (start .args .call .now)) _ m how refl) _ _ (at-last2 .last2 .given .1) in
-    let made = last-made _ _ _ _ _ _ _ _ _ _ _ _ _ u (start .args .terminate) _ _ _ _ _ _ _ laid-1 spare-1 last-1 in
-    let asks = last-asks _ _ _ _ _ _ _ _ _ _ _ _ _ u (start .args .terminate) _ _ _ _ _ _ _ laid-1 spare-1 last-1 in
-    once-ended _ _ _ _ _ _ _ _ _ _ _ _ _ u (start .args .terminate) _ _ _ _ _ _ Q-same (at-copy-words .copy-words .kept .1 .1 .1 .0 ∙ S2-same) laid-1 made asks (u .fewer) (left .few _ _ (at-first2 .first2 .given .1)) (omega arith)
+    let made = last-made _ _ _ _ _ _ _ _ _ _ _ _ _ u _ _ _ _ _ _ _ laid-1 spare-1 last-1 in
+    let asks = last-asks _ _ _ _ _ _ _ _ _ _ _ _ _ u _ _ _ _ _ _ _ laid-1 spare-1 last-1 in
+    once-ended _ _ _ _ _ _ _ _ _ _ _ _ _ u _ _ _ _ _ _ Q-same (at-copy-words .copy-words .kept .1 .1 .1 .0 ∙ S2-same) laid-1 made asks (u .fewer) (left .few _ _ (at-first2 .first2 .given .1)) (omega arith)
 
 same-length : tie.Need-same-length
 same-length c = search needs
@@ -103,7 +103,7 @@ returns c =
     let start = at-judge-bads .before .before .before .before .before .before .before .before .before in
     let u = start .pre in
     let with-first = at-judge-bads .judge-bads .ensures .0 in
-    λ h. let p = with-first h in once-first _ _ _ _ _ _ _ _ _ _ _ _ _ u (start .args .terminate) _ _ _ _ (judged-refused _ _ _ _ _ _ _ _ _ _ _ (p .2) _ (c .before .first .given .1))
+    λ h. let p = with-first h in once-first _ _ _ _ _ _ _ _ _ _ _ _ _ u _ _ _ _ (judged-refused _ _ _ _ _ _ _ _ _ _ _ (p .2) _ (c .before .first .given .1))
 
 same-length-3 : tie.Need-same-length-3
 same-length-3 c = search needs
@@ -120,9 +120,9 @@ returns-2 c =
     let u = start .pre in
     let g = start .args .given .now in
     let m = modelIn g (start .args .dumps .now) (start .args .sequentials .now) (start .args .initial .now) (start .args .later .now) (inputsIn (start .args .given .now) (start .args .call .now)) (repliesIn (start .args .given .now) (start .args .call .now)) in
-    let how = modeIn (minimiseIn (start .args .call .now)) (start .args .terminate) true in
+    let how = modeIn (start .args .call .now) in
     let with-first = at-judge-bads .judge-bads .ensures .0 in
-    λ h. let p = with-first h in once-last _ _ _ _ _ _ _ _ _ _ _ _ _ u (start .args .terminate) _ _ _ _ _ (judged-done _ _ _ _ _ _ _ _ _ _ _ (p .2) _ _ (at-first2 .first2 .given .1)) (answered-refused _ _ _ _ _ _ _ _ (at-put-last-question .put-last-question .ensures .0 (p .0) (inputsIn (start .args .given .now) (start .args .call .now)) _ m how refl) _ (c .before .last .given .1))
+    λ h. let p = with-first h in once-last _ _ _ _ _ _ _ _ _ _ _ _ _ u _ _ _ _ _ (judged-done _ _ _ _ _ _ _ _ _ _ _ (p .2) _ _ (at-first2 .first2 .given .1)) (answered-refused _ _ _ _ _ _ _ _ (at-put-last-question .put-last-question .ensures .0 (p .0) (inputsIn (start .args .given .now) (start .args .call .now)) _ m how refl) _ (c .before .last .given .1))
 
 same-length-5 : tie.Need-same-length-5
 same-length-5 c =
@@ -151,7 +151,7 @@ returns-3 c =
     let u = start .pre in
     let g = start .args .given .now in
     let m = modelIn g (start .args .dumps .now) (start .args .sequentials .now) (start .args .initial .now) (start .args .later .now) (inputsIn (start .args .given .now) (start .args .call .now)) (repliesIn (start .args .given .now) (start .args .call .now)) in
-    let how = modeIn (minimiseIn (start .args .call .now)) (start .args .terminate) true in
+    let how = modeIn (start .args .call .now) in
     let left = at-judge-bads .judge-bads .ensures .1 in
     let with-first = at-judge-bads .judge-bads .ensures .0 in
     let S-same = at-judge-bads .judge-bads .kept .1 .1 .1 .0 in
@@ -160,8 +160,8 @@ returns-3 c =
     let spare-1 = left .spare _ _ (length (start .args .later .now) + 1) (at-first2 .first2 .given .1) (u .spare) in
     let laid-1 = left .laid _ _ (at-first2 .first2 .given .1) in
     let last-1 = answered-done _ _ _ _ _ _ _ _ (at-put-last-question .put-last-question .ensures .0 (laid-1 .held) (inputsIn (start .args .given .now) (start .args .call .now)) _ m how refl) _ _ (at-last2 .last2 .given .1) in
-    let asks = last-asks _ _ _ _ _ _ _ _ _ _ _ _ _ u (start .args .terminate) _ _ _ _ _ _ _ laid-1 spare-1 last-1 in
-    λ h. let p = with-first h in once-done _ _ _ _ _ _ _ _ _ _ _ _ _ u (start .args .terminate) _ _ _ _ (p .0) (p .1) _ _ _ _ (at-put-last-question .put-last-question .ensures .1) S-same S2-same (left .still) (left .few _ _ (at-first2 .first2 .given .1)) (before-place _ _ _ asks) _ _ _ _ (at-copy-words .copy-words .ensures) (judged-done _ _ _ _ _ _ _ _ _ _ _ (p .2) _ _ (at-first2 .first2 .given .1)) (answered-done _ _ _ _ _ _ _ _ (at-put-last-question .put-last-question .ensures .0 (p .0) (inputsIn (start .args .given .now) (start .args .call .now)) _ m how refl) _ _ (at-last2 .last2 .given .1)) (at-write-call .write-call .ensures (p .0) (p .1) m (model-of _ _ _ _ _ _ _ _ _ _ _ _ _ u)) Q-same
+    let asks = last-asks _ _ _ _ _ _ _ _ _ _ _ _ _ u _ _ _ _ _ _ _ laid-1 spare-1 last-1 in
+    λ h. let p = with-first h in once-done _ _ _ _ _ _ _ _ _ _ _ _ _ u _ _ _ _ (p .0) (p .1) _ _ _ _ (at-put-last-question .put-last-question .ensures .1) S-same S2-same (left .still) (left .few _ _ (at-first2 .first2 .given .1)) (before-place _ _ _ asks) _ _ _ _ (at-copy-words .copy-words .ensures) (judged-done _ _ _ _ _ _ _ _ _ _ _ (p .2) _ _ (at-first2 .first2 .given .1)) (answered-done _ _ _ _ _ _ _ _ (at-put-last-question .put-last-question .ensures .0 (p .0) (inputsIn (start .args .given .now) (start .args .call .now)) _ m how refl) _ _ (at-last2 .last2 .given .1)) (at-write-call .write-call .ensures (p .0) (p .1) m (model-of _ _ _ _ _ _ _ _ _ _ _ _ _ u)) Q-same
 
 pub fold-once-spec : {M : Type 1} → statement M
 fold-once-spec = tie.close (tie.spec add-second add-third judge-bads-requires enum-known-first enum-known-first-2 put-last-question-requires enum-known-last enum-known-last-2 copy-words-requires write-call-requires same-length same-length-2 returns same-length-3 same-length-4 returns-2 same-length-5 same-length-6 returns-3)

@@ -1,28 +1,31 @@
 -- The sequentials, then the bads of one or both lists.
 -- Assumes nothing.
 use borrow.Author.Needs.{needs}
-use mathlib.Core.Path.{_∙_}
+use mathlib.Core.Path.{_∙_, sym}
 use mathlib.Core.Bool.{true, false}
 use native.Mathlib.Omega.{arith}
 use lib.ListN.{length}
 use Rattle.optimize.proofs.RunJoined.{run-ready, run-table, run-place, run-laid, run-entries, run-held, run-underway, run-refused, run-ends}
-use Rattle.optimize.specs.CallWords.{inputsIn, repliesIn, minimiseIn}
+use Rattle.optimize.specs.CallWords.{inputsIn, repliesIn, modeIn}
 use Rattle.optimize.proofs.run.run.Statement.{statement}
 use Rattle.optimize.proofs.run.run.Tie as tie
+
+asks-once-requires : tie.Need-asks-once-requires
+asks-once-requires c κs = search needs
 
 add-lists-at : tie.Need-add-lists-at
 add-lists-at c = search needs
 
 lists-at-requires : tie.Need-lists-at-requires
 lists-at-requires c κs =
-    let start = c .before .before .before .before .before .before in
+    let start = c .before .before .before .before .before .before .before in
     let u = start .pre in
     (omega (arith, u .whole), u .small, u .bads)
 
 begin-requires : tie.Need-begin-requires
 begin-requires c κs =
     let at-lists-at = c .before .before in
-    let start = at-lists-at .before .before .before .before .before .before .before in
+    let start = at-lists-at .before .before .before .before .before .before .before .before in
     let g = start .args .given .now in
     let dumps = start .args .dumps .now in
     let ss = start .args .sequentials .now in
@@ -43,7 +46,7 @@ visit-all-requires : tie.Need-visit-all-requires
 visit-all-requires c κs =
     let at-begin = c .before .before .before .before .before .before .before in
     let at-lists-at = at-begin .before .before .before in
-    let start = at-lists-at .before .before .before .before .before .before .before in
+    let start = at-lists-at .before .before .before .before .before .before .before .before in
     let g = start .args .given .now in
     let dumps = start .args .dumps .now in
     let ss = start .args .sequentials .now in
@@ -53,7 +56,7 @@ visit-all-requires c κs =
     let reps = (repliesIn (start .args .given .now) (start .args .call .now)) in
     let r = length (start .args .result .now) in
     let s = length (start .args .scratch .now) in
-    let minimise = (minimiseIn (start .args .call .now)) in
+    let mode = (modeIn (start .args .call .now)) in
     let u = start .pre in
     let place = at-lists-at .lists-at .ensures in
     let R-same = at-begin .begin .kept .1 .1 .0 in
@@ -61,7 +64,7 @@ visit-all-requires c κs =
     let fewer = at-begin .begin .ensures .1 in
     let judged = at-begin .begin .ensures .0 in
     let fresh-walk = c .untouched .ensures in
-    (omega (arith, run-place g dumps ss initial later ins reps r s u _ place, S-same, fewer), (run-laid g dumps ss initial later ins reps r s u minimise _ _ _ _ R-same S-same place fewer judged _ fresh-walk, run-entries g dumps ss initial later ins reps r s u minimise _ _ _ _ R-same S-same place fewer judged))
+    (omega (arith, run-place g dumps ss initial later ins reps r s u _ place, S-same, fewer), (run-laid g dumps ss initial later ins reps r s u mode _ _ _ _ R-same S-same place fewer judged _ fresh-walk, run-entries g dumps ss initial later ins reps r s u mode _ _ _ _ R-same S-same place fewer judged))
 
 enum-known-walked : tie.Need-enum-known-walked
 enum-known-walked c = search needs
@@ -76,7 +79,7 @@ fold-once-requires c κs =
     let at-untouched = at-visit-all .before in
     let at-begin = at-untouched .before .before .before .before .before .before .before in
     let at-lists-at = at-begin .before .before .before in
-    let start = at-lists-at .before .before .before .before .before .before .before in
+    let start = at-lists-at .before .before .before .before .before .before .before .before in
     let g = start .args .given .now in
     let dumps = start .args .dumps .now in
     let ss = start .args .sequentials .now in
@@ -86,7 +89,7 @@ fold-once-requires c κs =
     let reps = (repliesIn (start .args .given .now) (start .args .call .now)) in
     let r = length (start .args .result .now) in
     let s = length (start .args .scratch .now) in
-    let minimise = (minimiseIn (start .args .call .now)) in
+    let mode = (modeIn (start .args .call .now)) in
     let u = start .pre in
     let place = at-lists-at .lists-at .ensures in
     let R-same = at-begin .begin .kept .1 .1 .0 in
@@ -98,7 +101,7 @@ fold-once-requires c κs =
     let goes = at-visit-all .visit-all .ensures .0 in
     let laid = at-visit-all .visit-all .ensures .1 .0 in
     let fresh-walk = at-untouched .untouched .ensures in
-    run-underway g dumps ss initial later ins reps r s u minimise _ _ _ _ R-same S-same place fewer judged _ _ _ fresh-walk _ goes _ (at-walked2 .walked2 .given .1) Q-same T-same (laid _ (at-walked2 .walked2 .given .1))
+    run-underway g dumps ss initial later ins reps r s u mode _ _ _ _ R-same S-same place fewer judged _ _ _ fresh-walk _ goes _ (at-walked2 .walked2 .given .1) Q-same T-same (laid _ (at-walked2 .walked2 .given .1))
 
 same-length : tie.Need-same-length
 same-length c =
@@ -107,7 +110,7 @@ same-length c =
     let at-begin = at-visit-all .before .before .before .before .before .before .before .before in
     let R-same = at-begin .begin .kept .1 .1 .0 in
     let Q-same = at-visit-all .visit-all .kept .1 .0 in
-    at-fold-once .fold-once .kept .1 .1 .1 .1 .1 .0 ∙ Q-same ∙ R-same
+    at-fold-once .fold-once .kept .1 .1 .1 .1 .0 ∙ Q-same ∙ R-same
 
 same-length-2 : tie.Need-same-length-2
 same-length-2 c = search needs
@@ -121,7 +124,8 @@ returns c =
     let at-untouched = at-visit-all .before in
     let at-begin = at-untouched .before .before .before .before .before .before .before in
     let at-lists-at = at-begin .before .before .before in
-    let start = at-lists-at .before .before .before .before .before .before .before in
+    let at-asks-once = at-lists-at .before in
+    let start = at-asks-once .before .before .before .before .before .before .before in
     let g = start .args .given .now in
     let dumps = start .args .dumps .now in
     let ss = start .args .sequentials .now in
@@ -131,7 +135,7 @@ returns c =
     let reps = (repliesIn (start .args .given .now) (start .args .call .now)) in
     let r = length (start .args .result .now) in
     let s = length (start .args .scratch .now) in
-    let minimise = (minimiseIn (start .args .call .now)) in
+    let mode = (modeIn (start .args .call .now)) in
     let u = start .pre in
     let place = at-lists-at .lists-at .ensures in
     let R-same = at-begin .begin .kept .1 .1 .0 in
@@ -141,10 +145,8 @@ returns c =
     let Q-same = at-visit-all .visit-all .kept .1 .0 in
     let goes = at-visit-all .visit-all .ensures .0 in
     let still = at-visit-all .visit-all .ensures .1 .1 in
-    let terminate = start .args .terminate in
-    let one = start .args .one-query in
     let fresh-walk = at-untouched .untouched .ensures in
-    run-ends g dumps ss initial later ins reps r s u minimise _ _ _ _ R-same S-same place fewer judged _ _ _ fresh-walk _ goes terminate one true (at-if1 .if1 .taken) _ (at-walked2 .walked2 .given .1) still _ (Q-same ∙ R-same) _ _ (at-fold-once .fold-once .ensures (run-held g dumps ss initial later ins reps r s u minimise _ _ _ _ R-same S-same place fewer judged _ _ _ fresh-walk _ goes))
+    run-ends g dumps ss initial later ins reps r s u mode _ _ _ _ R-same S-same place fewer judged _ _ _ fresh-walk _ goes true (sym (at-asks-once .asks-once .ensures) ∙ at-if1 .if1 .taken) _ (at-walked2 .walked2 .given .1) still _ (Q-same ∙ R-same) _ _ (at-fold-once .fold-once .ensures (run-held g dumps ss initial later ins reps r s u mode _ _ _ _ R-same S-same place fewer judged _ _ _ fresh-walk _ goes))
 
 fold-bads-requires : tie.Need-fold-bads-requires
 fold-bads-requires c κs =
@@ -153,7 +155,7 @@ fold-bads-requires c κs =
     let at-untouched = at-visit-all .before in
     let at-begin = at-untouched .before .before .before .before .before .before .before in
     let at-lists-at = at-begin .before .before .before in
-    let start = at-lists-at .before .before .before .before .before .before .before in
+    let start = at-lists-at .before .before .before .before .before .before .before .before in
     let g = start .args .given .now in
     let dumps = start .args .dumps .now in
     let ss = start .args .sequentials .now in
@@ -163,7 +165,7 @@ fold-bads-requires c κs =
     let reps = (repliesIn (start .args .given .now) (start .args .call .now)) in
     let r = length (start .args .result .now) in
     let s = length (start .args .scratch .now) in
-    let minimise = (minimiseIn (start .args .call .now)) in
+    let mode = (modeIn (start .args .call .now)) in
     let u = start .pre in
     let place = at-lists-at .lists-at .ensures in
     let R-same = at-begin .begin .kept .1 .1 .0 in
@@ -175,7 +177,7 @@ fold-bads-requires c κs =
     let goes = at-visit-all .visit-all .ensures .0 in
     let laid = at-visit-all .visit-all .ensures .1 .0 in
     let fresh-walk = at-untouched .untouched .ensures in
-    run-underway g dumps ss initial later ins reps r s u minimise _ _ _ _ R-same S-same place fewer judged _ _ _ fresh-walk _ goes _ (at-walked2 .walked2 .given .1) Q-same T-same (laid _ (at-walked2 .walked2 .given .1))
+    run-underway g dumps ss initial later ins reps r s u mode _ _ _ _ R-same S-same place fewer judged _ _ _ fresh-walk _ goes _ (at-walked2 .walked2 .given .1) Q-same T-same (laid _ (at-walked2 .walked2 .given .1))
 
 same-length-3 : tie.Need-same-length-3
 same-length-3 c = search needs
@@ -189,7 +191,7 @@ returns-2 c =
     let at-untouched = at-visit-all .before in
     let at-begin = at-untouched .before .before .before .before .before .before .before in
     let at-lists-at = at-begin .before .before .before in
-    let start = at-lists-at .before .before .before .before .before .before .before in
+    let start = at-lists-at .before .before .before .before .before .before .before .before in
     let g = start .args .given .now in
     let dumps = start .args .dumps .now in
     let ss = start .args .sequentials .now in
@@ -199,7 +201,7 @@ returns-2 c =
     let reps = (repliesIn (start .args .given .now) (start .args .call .now)) in
     let r = length (start .args .result .now) in
     let s = length (start .args .scratch .now) in
-    let minimise = (minimiseIn (start .args .call .now)) in
+    let mode = (modeIn (start .args .call .now)) in
     let u = start .pre in
     let place = at-lists-at .lists-at .ensures in
     let R-same = at-begin .begin .kept .1 .1 .0 in
@@ -207,10 +209,8 @@ returns-2 c =
     let fewer = at-begin .begin .ensures .1 in
     let judged = at-begin .begin .ensures .0 in
     let goes = at-visit-all .visit-all .ensures .0 in
-    let terminate = start .args .terminate in
-    let one = start .args .one-query in
     let fresh-walk = at-untouched .untouched .ensures in
-    run-refused g dumps ss initial later ins reps r s u minimise _ _ _ _ R-same S-same place fewer judged _ _ _ fresh-walk _ goes terminate one _ _ (c .before .walked .given .1)
+    run-refused g dumps ss initial later ins reps r s u mode _ _ _ _ R-same S-same place fewer judged _ _ _ fresh-walk _ goes _ _ (c .before .walked .given .1)
 
 same-length-5 : tie.Need-same-length-5
 same-length-5 c =
@@ -219,7 +219,7 @@ same-length-5 c =
     let at-begin = at-visit-all .before .before .before .before .before .before .before .before in
     let R-same = at-begin .begin .kept .1 .1 .0 in
     let Q-same = at-visit-all .visit-all .kept .1 .0 in
-    at-fold-bads .fold-bads .kept .1 .1 .1 .1 .1 .0 ∙ Q-same ∙ R-same
+    at-fold-bads .fold-bads .kept .1 .1 .1 .1 .0 ∙ Q-same ∙ R-same
 
 same-length-6 : tie.Need-same-length-6
 same-length-6 c = search needs
@@ -233,7 +233,8 @@ returns-3 c =
     let at-untouched = at-visit-all .before in
     let at-begin = at-untouched .before .before .before .before .before .before .before in
     let at-lists-at = at-begin .before .before .before in
-    let start = at-lists-at .before .before .before .before .before .before .before in
+    let at-asks-once = at-lists-at .before in
+    let start = at-asks-once .before .before .before .before .before .before .before in
     let g = start .args .given .now in
     let dumps = start .args .dumps .now in
     let ss = start .args .sequentials .now in
@@ -243,7 +244,7 @@ returns-3 c =
     let reps = (repliesIn (start .args .given .now) (start .args .call .now)) in
     let r = length (start .args .result .now) in
     let s = length (start .args .scratch .now) in
-    let minimise = (minimiseIn (start .args .call .now)) in
+    let mode = (modeIn (start .args .call .now)) in
     let u = start .pre in
     let place = at-lists-at .lists-at .ensures in
     let R-same = at-begin .begin .kept .1 .1 .0 in
@@ -253,10 +254,8 @@ returns-3 c =
     let Q-same = at-visit-all .visit-all .kept .1 .0 in
     let goes = at-visit-all .visit-all .ensures .0 in
     let still = at-visit-all .visit-all .ensures .1 .1 in
-    let terminate = start .args .terminate in
-    let one = start .args .one-query in
     let fresh-walk = at-untouched .untouched .ensures in
-    run-ends g dumps ss initial later ins reps r s u minimise _ _ _ _ R-same S-same place fewer judged _ _ _ fresh-walk _ goes terminate one false (at-if1 .if1 .left) _ (at-walked2 .walked2 .given .1) still _ (Q-same ∙ R-same) _ _ (at-fold-bads .fold-bads .ensures (run-held g dumps ss initial later ins reps r s u minimise _ _ _ _ R-same S-same place fewer judged _ _ _ fresh-walk _ goes))
+    run-ends g dumps ss initial later ins reps r s u mode _ _ _ _ R-same S-same place fewer judged _ _ _ fresh-walk _ goes false (sym (at-asks-once .asks-once .ensures) ∙ at-if1 .if1 .left) _ (at-walked2 .walked2 .given .1) still _ (Q-same ∙ R-same) _ _ (at-fold-bads .fold-bads .ensures (run-held g dumps ss initial later ins reps r s u mode _ _ _ _ R-same S-same place fewer judged _ _ _ fresh-walk _ goes))
 
 pub run-spec : {M : Type 1} → statement M
-run-spec = tie.close (tie.spec add-lists-at lists-at-requires begin-requires untouched-requires visit-all-requires enum-known-walked enum-known-walked-2 fold-once-requires same-length same-length-2 returns fold-bads-requires same-length-3 same-length-4 returns-2 same-length-5 same-length-6 returns-3)
+run-spec = tie.close (tie.spec asks-once-requires add-lists-at lists-at-requires begin-requires untouched-requires visit-all-requires enum-known-walked enum-known-walked-2 fold-once-requires same-length same-length-2 returns fold-bads-requires same-length-3 same-length-4 returns-2 same-length-5 same-length-6 returns-3)

@@ -7,7 +7,7 @@ use borrow.Author.Tests.{not-true, not-false}
 use Rattle.optimize.specs.View.{view}
 use Rattle.rules.specs.Fold.{stays}
 use Rattle.optimize.proofs.Finishes.{finish-quiet, ite-bit, ite-word, ite-other, ite-by}
-use Rattle.optimize.specs.CallWords.{repliesIn, minimiseIn, waysBy}
+use Rattle.optimize.specs.CallWords.{repliesIn, modeIn, waysBy}
 use Rattle.optimize.specs.Counters.{walkIn}
 use Rattle.optimize.proofs.settle.after_ite.Statement.{statement}
 use Rattle.optimize.proofs.settle.after_ite.Tie as tie
@@ -60,7 +60,7 @@ returns-2 c =
     let at-if1 = at-word .before in
     let at-minimises = at-if1 .before in
     let start = at-minimises .before .before .before .before in
-    λ h inputs dumps. ite-by h (start .args .given .now) inputs dumps _ _ (start .args .result .now) (start .args .scratch .now) (walkIn (start .args .counters .now)) (minimiseIn (start .args .call .now)) (start .args .node) _ _ _ (at-replies-in .replies-in .ensures) (start .args .x) (start .args .y) (start .args .z) (at-solve-ite-bit .solve-ite-bit .ensures h inputs _ ∙ ite-bit (start .args .given .now) _ (start .args .node) _ (start .args .x) (start .args .y) (start .args .z) (sym (at-minimises .minimises .ensures) ∙ not-false _ (at-if1 .if1 .left)) (sym (at-word .word .ensures) ∙ at-if2 .if2 .taken))
+    λ h inputs dumps. ite-by h (start .args .given .now) inputs dumps _ _ (start .args .result .now) (start .args .scratch .now) (walkIn (start .args .counters .now)) (modeIn (start .args .call .now)) (start .args .node) _ _ _ (at-replies-in .replies-in .ensures) (start .args .x) (start .args .y) (start .args .z) (at-solve-ite-bit .solve-ite-bit .ensures h inputs _ ∙ ite-bit (start .args .given .now) _ (start .args .node) _ (start .args .x) (start .args .y) (start .args .z) (sym (at-minimises .minimises .ensures) ∙ not-false _ (at-if1 .if1 .left)) (sym (at-word .word .ensures) ∙ at-if2 .if2 .taken))
 
 replies-in-requires-2 : tie.Need-replies-in-requires-2
 replies-in-requires-2 c κs = search needs
@@ -86,7 +86,7 @@ returns-3 c =
     let at-if1 = at-word .before in
     let at-minimises = at-if1 .before in
     let start = at-minimises .before .before .before .before in
-    λ h inputs dumps. ite-by h (start .args .given .now) inputs dumps _ _ (start .args .result .now) (start .args .scratch .now) (walkIn (start .args .counters .now)) (minimiseIn (start .args .call .now)) (start .args .node) _ _ _ (at-replies-in2 .replies-in2 .ensures) (start .args .x) (start .args .y) (start .args .z) (at-solve-ite-word .solve-ite-word .ensures h inputs _ ∙ ite-word (start .args .given .now) _ (start .args .node) _ (start .args .x) (start .args .y) (start .args .z) (sym (at-minimises .minimises .ensures) ∙ not-false _ (at-if1 .if1 .left)) (λ e. at-if2 .if2 .left (at-word .word .ensures ∙ e)) (sym (at-word .word .ensures) ∙ at-if3 .if3 .taken))
+    λ h inputs dumps. ite-by h (start .args .given .now) inputs dumps _ _ (start .args .result .now) (start .args .scratch .now) (walkIn (start .args .counters .now)) (modeIn (start .args .call .now)) (start .args .node) _ _ _ (at-replies-in2 .replies-in2 .ensures) (start .args .x) (start .args .y) (start .args .z) (at-solve-ite-word .solve-ite-word .ensures h inputs _ ∙ ite-word (start .args .given .now) _ (start .args .node) _ (start .args .x) (start .args .y) (start .args .z) (sym (at-minimises .minimises .ensures) ∙ not-false _ (at-if1 .if1 .left)) (λ e. at-if2 .if2 .left (at-word .word .ensures ∙ e)) (sym (at-word .word .ensures) ∙ at-if3 .if3 .taken))
 
 settle-requires-2 : tie.Need-settle-requires-2
 settle-requires-2 c κs =

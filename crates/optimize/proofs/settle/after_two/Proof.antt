@@ -4,7 +4,7 @@ use borrow.Author.Needs.{needs}
 use mathlib.Core.Path.{sym, _∙_}
 use Rattle.tables.specs.NodeAnswers.{kindIs}
 use Rattle.optimize.proofs.Finishes.{two-is, read-is}
-use Rattle.optimize.specs.CallWords.{repliesIn, minimiseIn, waysBy}
+use Rattle.optimize.specs.CallWords.{repliesIn, modeIn, waysBy}
 use Rattle.optimize.specs.Counters.{walkIn}
 use Rattle.optimize.proofs.settle.after_two.Statement.{statement}
 use Rattle.optimize.proofs.settle.after_two.Tie as tie
@@ -34,7 +34,7 @@ returns c =
     let at-is-read = at-if1 .before in
     let at-get-constant = at-is-read .before in
     let start = at-get-constant .before .before .before .before .before .before in
-    λ h inputs dumps. at-read .read .ensures h inputs (repliesIn (start .args .given .now) (start .args .call .now)) dumps (minimiseIn (start .args .call .now)) ∙ read-is h (start .args .given .now) inputs (repliesIn (start .args .given .now) (start .args .call .now)) (start .args .result .now) (start .args .scratch .now) (walkIn (start .args .counters .now)) (waysBy (start .args .given .now) dumps (start .args .call .now)) (start .args .node) (kindIs (start .args .kind)) (start .args .x) (start .args .y) _ (sym (at-is-read .is-read .ensures) ∙ at-if1 .if1 .taken) (at-get-constant .get-constant .ensures)
+    λ h inputs dumps. at-read .read .ensures h inputs dumps ∙ read-is h (start .args .given .now) inputs (repliesIn (start .args .given .now) (start .args .call .now)) (start .args .result .now) (start .args .scratch .now) (walkIn (start .args .counters .now)) (waysBy (start .args .given .now) dumps (start .args .call .now)) (start .args .node) (kindIs (start .args .kind)) (start .args .x) (start .args .y) _ (sym (at-is-read .is-read .ensures) ∙ at-if1 .if1 .taken) (at-get-constant .get-constant .ensures)
 
 node-count-requires : tie.Need-node-count-requires
 node-count-requires c κs = search needs

@@ -7,7 +7,7 @@ use Rattle.optimize.specs.View.{view, foldIs}
 use Rattle.optimize.specs.Process.{bitOf}
 use native.Mathlib.Omega.{arith}
 use Rattle.optimize.proofs.Finishes.{finish-folded, finish-quiet, quiet-stays, finish-by}
-use Rattle.optimize.specs.CallWords.{repliesIn, minimiseIn, waysBy}
+use Rattle.optimize.specs.CallWords.{repliesIn, modeIn, waysBy}
 use Rattle.optimize.specs.Counters.{walkIn}
 use Rattle.optimize.proofs.settle.finish.Statement.{statement}
 use Rattle.optimize.proofs.settle.finish.Tie as tie
@@ -104,7 +104,7 @@ returns-4 c =
     let at-if1 = at-minimises .before in
     let at-is-stays = at-if1 .before in
     let start = at-is-stays .before .before .before .before in
-    λ h inputs dumps. finish-by h (start .args .given .now) inputs dumps _ _ (start .args .result .now) (start .args .scratch .now) (walkIn (start .args .counters .now)) (minimiseIn (start .args .call .now)) (start .args .node) _ _ _ (at-replies-in .replies-in .ensures) (foldIs (start .args .fold)) (start .args .bit) (sym (at-is-stays .is-stays .ensures) ∙ not-false _ (at-if1 .if1 .left)) (sym (at-minimises .minimises .ensures) ∙ not-false _ (at-if2 .if2 .left)) (not-false _ (at-if3 .if3 .left)) (at-solve-boolean-binary .solve-boolean-binary .ensures h inputs _)
+    λ h inputs dumps. finish-by h (start .args .given .now) inputs dumps _ _ (start .args .result .now) (start .args .scratch .now) (walkIn (start .args .counters .now)) (modeIn (start .args .call .now)) (start .args .node) _ _ _ (at-replies-in .replies-in .ensures) (foldIs (start .args .fold)) (start .args .bit) (sym (at-is-stays .is-stays .ensures) ∙ not-false _ (at-if1 .if1 .left)) (sym (at-minimises .minimises .ensures) ∙ not-false _ (at-if2 .if2 .left)) (not-false _ (at-if3 .if3 .left)) (at-solve-boolean-binary .solve-boolean-binary .ensures h inputs _)
 
 pub finish-spec : {M : Type 1} → statement M
 finish-spec = tie.close (tie.spec is-stays-requires settle-requires same-length same-length-2 returns minimises-requires settle-requires-2 same-length-3 same-length-4 returns-2 settle-requires-3 same-length-5 same-length-6 returns-3 replies-in-requires solve-boolean-binary-requires same-length-7 same-length-8 returns-4)

@@ -10,7 +10,8 @@ use Prim.Native.Nat.{_<_}
 use lib.ListN.{getD}
 use Rattle.optimize.specs.declared.walk.Walk.{Walk}
 use Rattle.optimize.specs.Bounds.{countOf}
-use Rattle.optimize.specs.View.{view, waysIn}
+use Rattle.optimize.specs.View.{view}
+use Rattle.optimize.specs.CallWords.{repliesIn, waysBy}
 use Rattle.optimize.specs.Counters.{walkIn, tallied}
 use Rattle.optimize.proofs.CounterLaws.{walk-put, still-goes}
 use Rattle.optimize.proofs.Finishes.{forward-none, forward-some, tally-is}
@@ -39,7 +40,7 @@ returns c =
     let at-settle = c .before .before .before .before in
     let at-enum-told = at-settle .before .before .before .before in
     let start = at-enum-told .before .before .before .before .before in
-    λ h inputs replies dumps minimise. at-settle .settle .ensures h inputs replies (waysIn dumps minimise replies) ∙ forward-none h (start .args .given .now) inputs replies dumps (start .args .result .now) (start .args .scratch .now) minimise (walkIn (start .args .counters .now)) (start .args .node) (start .args .memory) _ (at-enum-told .enum-told .given .1)
+    λ h inputs dumps. at-settle .settle .ensures h inputs (repliesIn (start .args .given .now) (start .args .call .now)) (waysBy (start .args .given .now) dumps (start .args .call .now)) ∙ forward-none h (start .args .given .now) inputs (repliesIn (start .args .given .now) (start .args .call .now)) dumps (start .args .result .now) (start .args .scratch .now) (getD (start .args .call .now) 4 0) (walkIn (start .args .counters .now)) (start .args .node) (start .args .memory) _ (at-enum-told .enum-told .given .1)
 
 element-copy-out-find-in-memory : tie.Need-element-copy-out-find-in-memory
 element-copy-out-find-in-memory c = search needs
@@ -95,7 +96,7 @@ returns-2 c =
     let at-find-in-memory = at-found .before .before in
     let at-address = at-find-in-memory .before .before .before .before in
     let start = at-address .before .before .before .before .before in
-    λ h inputs replies dumps minimise. at-settle2 .settle2 .ensures h inputs replies (waysIn dumps minimise replies) ∙ forward-some h (start .args .given .now) inputs replies dumps (start .args .result .now) (start .args .scratch .now) minimise (walkIn (start .args .counters .now)) (start .args .node) (start .args .memory) _ _ (at-find-in-memory .find-in-memory .result) _ _ _ (at-address .address .given .1) (at-find-in-memory .find-in-memory .ensures .0) (sym (ap (λ z. passedBy (valueIs z) (at-find-in-memory .find-in-memory .result .passed)) (at-found .found .given .1))) (sym (ap (λ z. foldFound (valueIs z)) (at-found .found .given .1))) (ap (λ (w : Walk). view h (start .args .given .now) inputs replies (start .args .result .now) (start .args .scratch .now) w) (walk-put (tallied (walkIn (start .args .counters .now)) (at-find-in-memory .find-in-memory .result .looked) (at-find-in-memory .find-in-memory .result .passed)) (start .args .counters .now) _ (at-tally .tally .ensures)) ∙ tally-is h (start .args .given .now) inputs replies (start .args .result .now) (start .args .scratch .now) (walkIn (start .args .counters .now)) _ _)
+    λ h inputs dumps. at-settle2 .settle2 .ensures h inputs (repliesIn (start .args .given .now) (start .args .call .now)) (waysBy (start .args .given .now) dumps (start .args .call .now)) ∙ forward-some h (start .args .given .now) inputs (repliesIn (start .args .given .now) (start .args .call .now)) dumps (start .args .result .now) (start .args .scratch .now) (getD (start .args .call .now) 4 0) (walkIn (start .args .counters .now)) (start .args .node) (start .args .memory) _ _ (at-find-in-memory .find-in-memory .result) _ _ _ (at-address .address .given .1) (at-find-in-memory .find-in-memory .ensures .0) (sym (ap (λ z. passedBy (valueIs z) (at-find-in-memory .find-in-memory .result .passed)) (at-found .found .given .1))) (sym (ap (λ z. foldFound (valueIs z)) (at-found .found .given .1))) (ap (λ (w : Walk). view h (start .args .given .now) inputs (repliesIn (start .args .given .now) (start .args .call .now)) (start .args .result .now) (start .args .scratch .now) w) (walk-put (tallied (walkIn (start .args .counters .now)) (at-find-in-memory .find-in-memory .result .looked) (at-find-in-memory .find-in-memory .result .passed)) (start .args .counters .now) _ (at-tally .tally .ensures)) ∙ tally-is h (start .args .given .now) inputs (repliesIn (start .args .given .now) (start .args .call .now)) (start .args .result .now) (start .args .scratch .now) (walkIn (start .args .counters .now)) _ _)
 
 same-length-5 : tie.Need-same-length-5
 same-length-5 c = search needs
@@ -111,7 +112,7 @@ returns-3 c =
     let at-find-in-memory = at-enum-told2 .before .before in
     let at-address = at-find-in-memory .before .before .before .before in
     let start = at-address .before .before .before .before .before in
-    λ h inputs replies dumps minimise. at-settle3 .settle3 .ensures h inputs replies (waysIn dumps minimise replies) ∙ forward-some h (start .args .given .now) inputs replies dumps (start .args .result .now) (start .args .scratch .now) minimise (walkIn (start .args .counters .now)) (start .args .node) (start .args .memory) _ _ (at-find-in-memory .find-in-memory .result) _ _ _ (at-address .address .given .1) (at-find-in-memory .find-in-memory .ensures .0) (sym (ap (λ z. passedBy (valueIs z) (at-find-in-memory .find-in-memory .result .passed)) (at-enum-told2 .enum-told2 .given .1))) (sym (ap (λ z. foldFound (valueIs z)) (at-enum-told2 .enum-told2 .given .1))) (ap (λ (w : Walk). view h (start .args .given .now) inputs replies (start .args .result .now) (start .args .scratch .now) w) (walk-put (tallied (walkIn (start .args .counters .now)) (at-find-in-memory .find-in-memory .result .looked) 0) (start .args .counters .now) _ (at-tally2 .tally2 .ensures)) ∙ tally-is h (start .args .given .now) inputs replies (start .args .result .now) (start .args .scratch .now) (walkIn (start .args .counters .now)) _ _)
+    λ h inputs dumps. at-settle3 .settle3 .ensures h inputs (repliesIn (start .args .given .now) (start .args .call .now)) (waysBy (start .args .given .now) dumps (start .args .call .now)) ∙ forward-some h (start .args .given .now) inputs (repliesIn (start .args .given .now) (start .args .call .now)) dumps (start .args .result .now) (start .args .scratch .now) (getD (start .args .call .now) 4 0) (walkIn (start .args .counters .now)) (start .args .node) (start .args .memory) _ _ (at-find-in-memory .find-in-memory .result) _ _ _ (at-address .address .given .1) (at-find-in-memory .find-in-memory .ensures .0) (sym (ap (λ z. passedBy (valueIs z) (at-find-in-memory .find-in-memory .result .passed)) (at-enum-told2 .enum-told2 .given .1))) (sym (ap (λ z. foldFound (valueIs z)) (at-enum-told2 .enum-told2 .given .1))) (ap (λ (w : Walk). view h (start .args .given .now) inputs (repliesIn (start .args .given .now) (start .args .call .now)) (start .args .result .now) (start .args .scratch .now) w) (walk-put (tallied (walkIn (start .args .counters .now)) (at-find-in-memory .find-in-memory .result .looked) 0) (start .args .counters .now) _ (at-tally2 .tally2 .ensures)) ∙ tally-is h (start .args .given .now) inputs (repliesIn (start .args .given .now) (start .args .call .now)) (start .args .result .now) (start .args .scratch .now) (walkIn (start .args .counters .now)) _ _)
 
 pub read-spec : {M : Type 1} → statement M
 read-spec = tie.close (tie.spec enum-known-address enum-told settle-requires same-length same-length-2 returns element-copy-out-find-in-memory find-in-memory-requires enum-known-found tally-requires settle-requires-2 enum-told-2 tally-requires-2 settle-requires-3 same-length-3 same-length-4 returns-2 same-length-5 same-length-6 returns-3)

@@ -9,7 +9,7 @@ use Rattle.optimize.proofs.Walks.{deep, mark-0, again-fresh}
 use mathlib.Core.Path.{ap, sym, subst}
 use Rattle.optimize.specs.Counters.{walkIn, refusedIn}
 use Rattle.optimize.proofs.CounterLaws.{entered}
-use Rattle.optimize.specs.CallWords.{inputsIn, repliesIn, minimiseIn, waysBy}
+use Rattle.optimize.specs.CallWords.{inputsIn, repliesIn, modeIn, waysBy}
 use Rattle.optimize.proofs.visit.visit_entry.Statement.{statement}
 use Rattle.optimize.proofs.visit.visit_entry.Tie as tie
 
@@ -31,7 +31,7 @@ process-requires c κs =
     let at-if1 = c .before .before .before in
     let at-put-walk = at-if1 .before .before in
     let start = at-put-walk .before .before .before .before .before in
-    ((subst (λ w. Laid (start .args .given .now) (start .args .dumps .now) (inputsIn (start .args .given .now) (start .args .call .now)) (repliesIn (start .args .given .now) (start .args .call .now)) (minimiseIn (start .args .call .now)) (start .args .result .now) (start .args .scratch .now) w) (sym (ap walkIn (at-put-walk .put-walk .ensures))) (start .pre .0)), ((start .pre .1), (mark-0 _ _ _ (start .pre .1) (at-if1 .if1 .taken), (ap refusedIn (at-put-walk .put-walk .ensures)))))
+    ((subst (λ w. Laid (start .args .given .now) (start .args .dumps .now) (inputsIn (start .args .given .now) (start .args .call .now)) (repliesIn (start .args .given .now) (start .args .call .now)) (modeIn (start .args .call .now)) 0 (start .args .result .now) (start .args .scratch .now) w) (sym (ap walkIn (at-put-walk .put-walk .ensures))) (start .pre .0)), ((start .pre .1), (mark-0 _ _ _ (start .pre .1) (at-if1 .if1 .taken), (ap refusedIn (at-put-walk .put-walk .ensures)))))
 
 visited-in-requires : tie.Need-visited-in-requires
 visited-in-requires c κs = search needs
@@ -58,7 +58,7 @@ visit-requires : tie.Need-visit-requires
 visit-requires c κs =
     let at-put-walk = c .before .before .before .before .before in
     let start = at-put-walk .before .before .before .before .before in
-    ((subst (λ w. Laid (start .args .given .now) (start .args .dumps .now) (inputsIn (start .args .given .now) (start .args .call .now)) (repliesIn (start .args .given .now) (start .args .call .now)) (minimiseIn (start .args .call .now)) (start .args .result .now) (start .args .scratch .now) w) (sym (ap walkIn (at-put-walk .put-walk .ensures))) (start .pre .0)), ((start .pre .1), (ap refusedIn (at-put-walk .put-walk .ensures))))
+    ((subst (λ w. Laid (start .args .given .now) (start .args .dumps .now) (inputsIn (start .args .given .now) (start .args .call .now)) (repliesIn (start .args .given .now) (start .args .call .now)) (modeIn (start .args .call .now)) 0 (start .args .result .now) (start .args .scratch .now) w) (sym (ap walkIn (at-put-walk .put-walk .ensures))) (start .pre .0)), ((start .pre .1), (ap refusedIn (at-put-walk .put-walk .ensures))))
 
 visited-in-requires-2 : tie.Need-visited-in-requires-2
 visited-in-requires-2 c κs = search needs

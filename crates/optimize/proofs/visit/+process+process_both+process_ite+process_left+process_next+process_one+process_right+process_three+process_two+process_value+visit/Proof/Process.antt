@@ -4,6 +4,7 @@ use mathlib.Core.Path.{ap, sym, _∙_}
 use Prim.Native.Nat.{ℕ}
 use native.Mathlib.Omega.{arith}
 use borrow.Author.Needs.{needs}
+use lib.ListN.{getD}
 use Rattle.tables.specs.NodeAnswers.{kindIs}
 use Rattle.optimize.specs.declared.form.Form.{Form}
 use Rattle.optimize.specs.View.{view}
@@ -26,7 +27,7 @@ use Rattle.optimize.proofs.visit.+process+process_both+process_ite+proc
 use Rattle.optimize.specs.Counters.{walkIn}
 use Rattle.rules.specs.Visit.{settle}
 use Rattle.optimize.proofs.call_words.inputs_in.Reads as inputs-in-reads
-use Rattle.optimize.specs.CallWords.{inputsIn, repliesIn, minimiseIn, waysBy}
+use Rattle.optimize.specs.CallWords.{inputsIn, repliesIn, modeIn, waysBy}
 use Rattle.optimize.proofs.Finishes.{take-by}
 use Rattle.optimize.proofs.visit.+process+process_both+process_ite+process_left+process_next+process_one+process_right+process_three+process_two+process_value+visit.Proof.Measures.{process-at, process-one-below, process-two-below, process-three-below, process-ite-below, process-next-below}
 
@@ -53,7 +54,7 @@ module _ (t : ℕ) where
   settle-const-requires : lts.Need-settle-const-requires claims (process-at t) process.Post
   settle-const-requires c κs =
       let start = c .before .before .before .before .before .before .before .before .before .before .before in
-      ((ready-room _ _ _ _ _ _ _ _ _ (ready _ _ _ _ _ _ _ _ _ (start .pre .1 .0) (start .pre .1 .1 .0) (start .pre .1 .1 .1 .0))), (start .pre .1 .1 .1 .1))
+      ((ready-room _ _ _ _ _ _ _ _ _ _ (ready _ _ _ _ _ _ _ _ _ _ (start .pre .1 .0) (start .pre .1 .1 .0) (start .pre .1 .1 .1 .0))), (start .pre .1 .1 .1 .1))
 
   enum-told-2 : lts.Need-enum-told-2 claims (process-at t) process.Post
   enum-told-2 c = search needs
@@ -61,7 +62,7 @@ module _ (t : ℕ) where
   settle-requires : lts.Need-settle-requires claims (process-at t) process.Post
   settle-requires c κs =
       let start = c .before .before .before .before .before .before .before .before .before .before .before in
-      let q = (ready-room _ _ _ _ _ _ _ _ _ (ready _ _ _ _ _ _ _ _ _ (start .pre .1 .0) (start .pre .1 .1 .0) (start .pre .1 .1 .1 .0))) in ((omega (arith, q .whole), q .small, q .inside), ((q .room, omega (arith, q .asks)), (q .few, (start .pre .1 .1 .1 .1))))
+      let q = (ready-room _ _ _ _ _ _ _ _ _ _ (ready _ _ _ _ _ _ _ _ _ _ (start .pre .1 .0) (start .pre .1 .1 .0) (start .pre .1 .1 .1 .0))) in ((omega (arith, q .whole), q .small, q .inside), ((q .room, omega (arith, q .asks)), (q .few, (start .pre .1 .1 .1 .1))))
 
   enum-told-3 : lts.Need-enum-told-3 claims (process-at t) process.Post
   enum-told-3 c = search needs
@@ -72,7 +73,7 @@ module _ (t : ℕ) where
   take-input-requires : lts.Need-take-input-requires claims (process-at t) process.Post
   take-input-requires c κs =
       let start = c .before .before .before .before .before .before .before .before .before .before .before .before in
-      ((ready-room _ _ _ _ _ _ _ _ _ (ready _ _ _ _ _ _ _ _ _ (start .pre .1 .0) (start .pre .1 .1 .0) (start .pre .1 .1 .1 .0))), (start .pre .1 .1 .1 .1))
+      ((ready-room _ _ _ _ _ _ _ _ _ _ (ready _ _ _ _ _ _ _ _ _ _ (start .pre .1 .0) (start .pre .1 .1 .0) (start .pre .1 .1 .1 .0))), (start .pre .1 .1 .1 .1))
 
   enum-told-4 : lts.Need-enum-told-4 claims (process-at t) process.Post
   enum-told-4 c = search needs
@@ -153,7 +154,7 @@ module _ (t : ℕ) where
       let at-word = at-form-of .before in
       let at-kind-at = at-word .before in
       let start = at-kind-at .before .before .before .before in
-      λ h f l. (h, at-settle-const .settle-const .ensures h (inputsIn (start .args .given .now) (start .args .call .now)) (repliesIn (start .args .given .now) (start .args .call .now)) (waysBy (start .args .given .now) (start .args .dumps .now) (start .args .call .now)) ∙ process-is (start .args .given .now) (start .args .dumps .now) (repliesIn (start .args .given .now) (start .args .call .now)) (minimiseIn (start .args .call .now)) (visitOf (start .args .given .now) (waysBy (start .args .given .now) (start .args .dumps .now) (start .args .call .now)) f) (view h (start .args .given .now) (inputsIn (start .args .given .now) (start .args .call .now)) (repliesIn (start .args .given .now) (start .args .call .now)) (start .args .result .now) (start .args .scratch .now) (walkIn (start .args .counters .now))) (start .args .node) (kindIs (at-kind-at .kind-at .result)) Form.Constant (at-kind-at .kind-at .ensures) (sym (at-enum-told .enum-told .given .1) ∙ at-form-of .form-of .ensures ∙ ap (formOf (kindIs (at-kind-at .kind-at .result))) (at-word .word .ensures)))
+      λ h f l. (h, at-settle-const .settle-const .ensures h (inputsIn (start .args .given .now) (start .args .call .now)) (repliesIn (start .args .given .now) (start .args .call .now)) (waysBy (start .args .given .now) (start .args .dumps .now) (start .args .call .now)) ∙ process-is (start .args .given .now) (start .args .dumps .now) (repliesIn (start .args .given .now) (start .args .call .now)) (getD (start .args .call .now) 4 0) (visitOf (start .args .given .now) (waysBy (start .args .given .now) (start .args .dumps .now) (start .args .call .now)) f) (view h (start .args .given .now) (inputsIn (start .args .given .now) (start .args .call .now)) (repliesIn (start .args .given .now) (start .args .call .now)) (start .args .result .now) (start .args .scratch .now) (walkIn (start .args .counters .now))) (start .args .node) (kindIs (at-kind-at .kind-at .result)) Form.Constant (at-kind-at .kind-at .ensures) (sym (at-enum-told .enum-told .given .1) ∙ at-form-of .form-of .ensures ∙ ap (formOf (kindIs (at-kind-at .kind-at .result))) (at-word .word .ensures)))
 
   same-length-3 : lts.Need-same-length-3 claims (process-at t) process.Post
   same-length-3 c =
@@ -174,7 +175,7 @@ module _ (t : ℕ) where
       let at-word = at-form-of .before in
       let at-kind-at = at-word .before in
       let start = at-kind-at .before .before .before .before in
-      λ h f l. (h, at-settle .settle .ensures h (inputsIn (start .args .given .now) (start .args .call .now)) (repliesIn (start .args .given .now) (start .args .call .now)) (waysBy (start .args .given .now) (start .args .dumps .now) (start .args .call .now)) ∙ process-is (start .args .given .now) (start .args .dumps .now) (repliesIn (start .args .given .now) (start .args .call .now)) (minimiseIn (start .args .call .now)) (visitOf (start .args .given .now) (waysBy (start .args .given .now) (start .args .dumps .now) (start .args .call .now)) f) (view h (start .args .given .now) (inputsIn (start .args .given .now) (start .args .call .now)) (repliesIn (start .args .given .now) (start .args .call .now)) (start .args .result .now) (start .args .scratch .now) (walkIn (start .args .counters .now))) (start .args .node) (kindIs (at-kind-at .kind-at .result)) Form.Given (at-kind-at .kind-at .ensures) (sym (at-enum-told2 .enum-told2 .given .1) ∙ at-form-of .form-of .ensures ∙ ap (formOf (kindIs (at-kind-at .kind-at .result))) (at-word .word .ensures)))
+      λ h f l. (h, at-settle .settle .ensures h (inputsIn (start .args .given .now) (start .args .call .now)) (repliesIn (start .args .given .now) (start .args .call .now)) (waysBy (start .args .given .now) (start .args .dumps .now) (start .args .call .now)) ∙ process-is (start .args .given .now) (start .args .dumps .now) (repliesIn (start .args .given .now) (start .args .call .now)) (getD (start .args .call .now) 4 0) (visitOf (start .args .given .now) (waysBy (start .args .given .now) (start .args .dumps .now) (start .args .call .now)) f) (view h (start .args .given .now) (inputsIn (start .args .given .now) (start .args .call .now)) (repliesIn (start .args .given .now) (start .args .call .now)) (start .args .result .now) (start .args .scratch .now) (walkIn (start .args .counters .now))) (start .args .node) (kindIs (at-kind-at .kind-at .result)) Form.Given (at-kind-at .kind-at .ensures) (sym (at-enum-told2 .enum-told2 .given .1) ∙ at-form-of .form-of .ensures ∙ ap (formOf (kindIs (at-kind-at .kind-at .result))) (at-word .word .ensures)))
 
   same-length-5 : lts.Need-same-length-5 claims (process-at t) process.Post
   same-length-5 c =
@@ -196,7 +197,7 @@ module _ (t : ℕ) where
       let at-word = at-form-of .before in
       let at-kind-at = at-word .before in
       let start = at-kind-at .before .before .before .before in
-      λ h f l. let m = take-by h (start .args .given .now) _ _ (repliesIn (start .args .given .now) (start .args .call .now)) (start .args .result .now) (start .args .scratch .now) (walkIn (start .args .counters .now)) (waysBy (start .args .given .now) (start .args .dumps .now) (start .args .call .now)) (start .args .node) _ _ _ (at-inputs-in .inputs-in .ensures) (at-take-input .take-input .ensures h (repliesIn (start .args .given .now) (start .args .call .now)) (minimiseIn (start .args .call .now))) in (m .0, m .1 ∙ process-is (start .args .given .now) (start .args .dumps .now) (repliesIn (start .args .given .now) (start .args .call .now)) (minimiseIn (start .args .call .now)) (visitOf (start .args .given .now) (waysBy (start .args .given .now) (start .args .dumps .now) (start .args .call .now)) f) (view h (start .args .given .now) (inputsIn (start .args .given .now) (start .args .call .now)) (repliesIn (start .args .given .now) (start .args .call .now)) (start .args .result .now) (start .args .scratch .now) (walkIn (start .args .counters .now))) (start .args .node) (kindIs (at-kind-at .kind-at .result)) Form.Free (at-kind-at .kind-at .ensures) (sym (at-enum-told3 .enum-told3 .given .1) ∙ at-form-of .form-of .ensures ∙ ap (formOf (kindIs (at-kind-at .kind-at .result))) (at-word .word .ensures)))
+      λ h f l. let m = take-by h (start .args .given .now) _ _ (repliesIn (start .args .given .now) (start .args .call .now)) (start .args .result .now) (start .args .scratch .now) (walkIn (start .args .counters .now)) (waysBy (start .args .given .now) (start .args .dumps .now) (start .args .call .now)) (start .args .node) _ _ _ (at-inputs-in .inputs-in .ensures) (at-take-input .take-input .ensures h (repliesIn (start .args .given .now) (start .args .call .now)) (modeIn (start .args .call .now))) in (m .0, m .1 ∙ process-is (start .args .given .now) (start .args .dumps .now) (repliesIn (start .args .given .now) (start .args .call .now)) (getD (start .args .call .now) 4 0) (visitOf (start .args .given .now) (waysBy (start .args .given .now) (start .args .dumps .now) (start .args .call .now)) f) (view h (start .args .given .now) (inputsIn (start .args .given .now) (start .args .call .now)) (repliesIn (start .args .given .now) (start .args .call .now)) (start .args .result .now) (start .args .scratch .now) (walkIn (start .args .counters .now))) (start .args .node) (kindIs (at-kind-at .kind-at .result)) Form.Free (at-kind-at .kind-at .ensures) (sym (at-enum-told3 .enum-told3 .given .1) ∙ at-form-of .form-of .ensures ∙ ap (formOf (kindIs (at-kind-at .kind-at .result))) (at-word .word .ensures)))
 
   same-length-7 : lts.Need-same-length-7 claims (process-at t) process.Post
   same-length-7 c =
@@ -217,7 +218,7 @@ module _ (t : ℕ) where
       let at-word = at-form-of .before in
       let at-kind-at = at-word .before in
       let start = at-kind-at .before .before .before .before in
-      λ h f l. let m = at-process-one .process-one .ensures h f l in (m .0, m .1 ∙ process-is (start .args .given .now) (start .args .dumps .now) (repliesIn (start .args .given .now) (start .args .call .now)) (minimiseIn (start .args .call .now)) (visitOf (start .args .given .now) (waysBy (start .args .given .now) (start .args .dumps .now) (start .args .call .now)) f) (view h (start .args .given .now) (inputsIn (start .args .given .now) (start .args .call .now)) (repliesIn (start .args .given .now) (start .args .call .now)) (start .args .result .now) (start .args .scratch .now) (walkIn (start .args .counters .now))) (start .args .node) (kindIs (at-kind-at .kind-at .result)) Form.One (at-kind-at .kind-at .ensures) (sym (at-enum-told4 .enum-told4 .given .1) ∙ at-form-of .form-of .ensures ∙ ap (formOf (kindIs (at-kind-at .kind-at .result))) (at-word .word .ensures)))
+      λ h f l. let m = at-process-one .process-one .ensures h f l in (m .0, m .1 ∙ process-is (start .args .given .now) (start .args .dumps .now) (repliesIn (start .args .given .now) (start .args .call .now)) (getD (start .args .call .now) 4 0) (visitOf (start .args .given .now) (waysBy (start .args .given .now) (start .args .dumps .now) (start .args .call .now)) f) (view h (start .args .given .now) (inputsIn (start .args .given .now) (start .args .call .now)) (repliesIn (start .args .given .now) (start .args .call .now)) (start .args .result .now) (start .args .scratch .now) (walkIn (start .args .counters .now))) (start .args .node) (kindIs (at-kind-at .kind-at .result)) Form.One (at-kind-at .kind-at .ensures) (sym (at-enum-told4 .enum-told4 .given .1) ∙ at-form-of .form-of .ensures ∙ ap (formOf (kindIs (at-kind-at .kind-at .result))) (at-word .word .ensures)))
 
   same-length-9 : lts.Need-same-length-9 claims (process-at t) process.Post
   same-length-9 c =
@@ -238,7 +239,7 @@ module _ (t : ℕ) where
       let at-word = at-form-of .before in
       let at-kind-at = at-word .before in
       let start = at-kind-at .before .before .before .before in
-      λ h f l. let m = at-process-two .process-two .ensures h f l in (m .0, m .1 ∙ process-is (start .args .given .now) (start .args .dumps .now) (repliesIn (start .args .given .now) (start .args .call .now)) (minimiseIn (start .args .call .now)) (visitOf (start .args .given .now) (waysBy (start .args .given .now) (start .args .dumps .now) (start .args .call .now)) f) (view h (start .args .given .now) (inputsIn (start .args .given .now) (start .args .call .now)) (repliesIn (start .args .given .now) (start .args .call .now)) (start .args .result .now) (start .args .scratch .now) (walkIn (start .args .counters .now))) (start .args .node) (kindIs (at-kind-at .kind-at .result)) Form.Two (at-kind-at .kind-at .ensures) (sym (at-enum-told5 .enum-told5 .given .1) ∙ at-form-of .form-of .ensures ∙ ap (formOf (kindIs (at-kind-at .kind-at .result))) (at-word .word .ensures)))
+      λ h f l. let m = at-process-two .process-two .ensures h f l in (m .0, m .1 ∙ process-is (start .args .given .now) (start .args .dumps .now) (repliesIn (start .args .given .now) (start .args .call .now)) (getD (start .args .call .now) 4 0) (visitOf (start .args .given .now) (waysBy (start .args .given .now) (start .args .dumps .now) (start .args .call .now)) f) (view h (start .args .given .now) (inputsIn (start .args .given .now) (start .args .call .now)) (repliesIn (start .args .given .now) (start .args .call .now)) (start .args .result .now) (start .args .scratch .now) (walkIn (start .args .counters .now))) (start .args .node) (kindIs (at-kind-at .kind-at .result)) Form.Two (at-kind-at .kind-at .ensures) (sym (at-enum-told5 .enum-told5 .given .1) ∙ at-form-of .form-of .ensures ∙ ap (formOf (kindIs (at-kind-at .kind-at .result))) (at-word .word .ensures)))
 
   same-length-11 : lts.Need-same-length-11 claims (process-at t) process.Post
   same-length-11 c =
@@ -259,7 +260,7 @@ module _ (t : ℕ) where
       let at-word = at-form-of .before in
       let at-kind-at = at-word .before in
       let start = at-kind-at .before .before .before .before in
-      λ h f l. let m = at-process-three .process-three .ensures h f l in (m .0, m .1 ∙ process-is (start .args .given .now) (start .args .dumps .now) (repliesIn (start .args .given .now) (start .args .call .now)) (minimiseIn (start .args .call .now)) (visitOf (start .args .given .now) (waysBy (start .args .given .now) (start .args .dumps .now) (start .args .call .now)) f) (view h (start .args .given .now) (inputsIn (start .args .given .now) (start .args .call .now)) (repliesIn (start .args .given .now) (start .args .call .now)) (start .args .result .now) (start .args .scratch .now) (walkIn (start .args .counters .now))) (start .args .node) (kindIs (at-kind-at .kind-at .result)) Form.Three (at-kind-at .kind-at .ensures) (sym (at-enum-told6 .enum-told6 .given .1) ∙ at-form-of .form-of .ensures ∙ ap (formOf (kindIs (at-kind-at .kind-at .result))) (at-word .word .ensures)))
+      λ h f l. let m = at-process-three .process-three .ensures h f l in (m .0, m .1 ∙ process-is (start .args .given .now) (start .args .dumps .now) (repliesIn (start .args .given .now) (start .args .call .now)) (getD (start .args .call .now) 4 0) (visitOf (start .args .given .now) (waysBy (start .args .given .now) (start .args .dumps .now) (start .args .call .now)) f) (view h (start .args .given .now) (inputsIn (start .args .given .now) (start .args .call .now)) (repliesIn (start .args .given .now) (start .args .call .now)) (start .args .result .now) (start .args .scratch .now) (walkIn (start .args .counters .now))) (start .args .node) (kindIs (at-kind-at .kind-at .result)) Form.Three (at-kind-at .kind-at .ensures) (sym (at-enum-told6 .enum-told6 .given .1) ∙ at-form-of .form-of .ensures ∙ ap (formOf (kindIs (at-kind-at .kind-at .result))) (at-word .word .ensures)))
 
   same-length-13 : lts.Need-same-length-13 claims (process-at t) process.Post
   same-length-13 c =
@@ -280,7 +281,7 @@ module _ (t : ℕ) where
       let at-word = at-form-of .before in
       let at-kind-at = at-word .before in
       let start = at-kind-at .before .before .before .before in
-      λ h f l. let m = at-process-ite .process-ite .ensures h f l in (m .0, m .1 ∙ process-is (start .args .given .now) (start .args .dumps .now) (repliesIn (start .args .given .now) (start .args .call .now)) (minimiseIn (start .args .call .now)) (visitOf (start .args .given .now) (waysBy (start .args .given .now) (start .args .dumps .now) (start .args .call .now)) f) (view h (start .args .given .now) (inputsIn (start .args .given .now) (start .args .call .now)) (repliesIn (start .args .given .now) (start .args .call .now)) (start .args .result .now) (start .args .scratch .now) (walkIn (start .args .counters .now))) (start .args .node) (kindIs (at-kind-at .kind-at .result)) Form.Choice (at-kind-at .kind-at .ensures) (sym (at-enum-told7 .enum-told7 .given .1) ∙ at-form-of .form-of .ensures ∙ ap (formOf (kindIs (at-kind-at .kind-at .result))) (at-word .word .ensures)))
+      λ h f l. let m = at-process-ite .process-ite .ensures h f l in (m .0, m .1 ∙ process-is (start .args .given .now) (start .args .dumps .now) (repliesIn (start .args .given .now) (start .args .call .now)) (getD (start .args .call .now) 4 0) (visitOf (start .args .given .now) (waysBy (start .args .given .now) (start .args .dumps .now) (start .args .call .now)) f) (view h (start .args .given .now) (inputsIn (start .args .given .now) (start .args .call .now)) (repliesIn (start .args .given .now) (start .args .call .now)) (start .args .result .now) (start .args .scratch .now) (walkIn (start .args .counters .now))) (start .args .node) (kindIs (at-kind-at .kind-at .result)) Form.Choice (at-kind-at .kind-at .ensures) (sym (at-enum-told7 .enum-told7 .given .1) ∙ at-form-of .form-of .ensures ∙ ap (formOf (kindIs (at-kind-at .kind-at .result))) (at-word .word .ensures)))
 
   same-length-15 : lts.Need-same-length-15 claims (process-at t) process.Post
   same-length-15 c =
@@ -301,7 +302,7 @@ module _ (t : ℕ) where
       let at-word = at-form-of .before in
       let at-kind-at = at-word .before in
       let start = at-kind-at .before .before .before .before in
-      λ h f l. let m = at-process-next .process-next .ensures h f l in (m .0, m .1 ∙ process-is (start .args .given .now) (start .args .dumps .now) (repliesIn (start .args .given .now) (start .args .call .now)) (minimiseIn (start .args .call .now)) (visitOf (start .args .given .now) (waysBy (start .args .given .now) (start .args .dumps .now) (start .args .call .now)) f) (view h (start .args .given .now) (inputsIn (start .args .given .now) (start .args .call .now)) (repliesIn (start .args .given .now) (start .args .call .now)) (start .args .result .now) (start .args .scratch .now) (walkIn (start .args .counters .now))) (start .args .node) (kindIs (at-kind-at .kind-at .result)) Form.Step (at-kind-at .kind-at .ensures) (sym (at-enum-told8 .enum-told8 .given .1) ∙ at-form-of .form-of .ensures ∙ ap (formOf (kindIs (at-kind-at .kind-at .result))) (at-word .word .ensures)))
+      λ h f l. let m = at-process-next .process-next .ensures h f l in (m .0, m .1 ∙ process-is (start .args .given .now) (start .args .dumps .now) (repliesIn (start .args .given .now) (start .args .call .now)) (getD (start .args .call .now) 4 0) (visitOf (start .args .given .now) (waysBy (start .args .given .now) (start .args .dumps .now) (start .args .call .now)) f) (view h (start .args .given .now) (inputsIn (start .args .given .now) (start .args .call .now)) (repliesIn (start .args .given .now) (start .args .call .now)) (start .args .result .now) (start .args .scratch .now) (walkIn (start .args .counters .now))) (start .args .node) (kindIs (at-kind-at .kind-at .result)) Form.Step (at-kind-at .kind-at .ensures) (sym (at-enum-told8 .enum-told8 .given .1) ∙ at-form-of .form-of .ensures ∙ ap (formOf (kindIs (at-kind-at .kind-at .result))) (at-word .word .ensures)))
 
   pub proved : {M : Type 1} → lts.Closed claims (process-at t) process.Post M
   proved = lts.spec claims (process-at t) process.Post kind-at-requires word-requires form-of-requires enum-told settle-const-requires enum-told-2 settle-requires enum-told-3 inputs-in-requires take-input-requires enum-told-4 process-one-requires enum-told-5 process-two-requires enum-told-6 process-three-requires enum-told-7 process-ite-requires enum-told-8 process-next-requires same-length same-length-2 returns same-length-3 same-length-4 returns-2 same-length-5 same-length-6 returns-3 same-length-7 same-length-8 returns-4 same-length-9 same-length-10 returns-5 same-length-11 same-length-12 returns-6 same-length-13 same-length-14 returns-7 same-length-15 same-length-16 returns-8

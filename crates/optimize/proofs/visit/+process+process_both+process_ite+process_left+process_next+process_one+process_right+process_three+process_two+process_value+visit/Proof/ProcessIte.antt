@@ -69,7 +69,7 @@ module _ (t : ℕ) where
       let at-visit = at-is-refused .before .before .before .before .before .before in
       let at-operand = at-visit .before in
       let start = at-operand .before .before .before .before .before .before .before in
-      let k = (ready-on _ _ _ _ _ _ _ _ _ _ _ _ _ _ _ (ready _ _ _ _ _ _ _ _ _ (start .pre .1 .0) (start .pre .1 .1 .0) (start .pre .1 .1 .1 .0)) (omega (arith, at-operand .operand .ensures, (start .pre .1 .1 .1 .1 .0))) (at-visit .visit .ensures) (went _ _ _ (at-is-refused .is-refused .ensures) (at-if1 .if1 .left)) (at-visit .visit .kept .1 .0) (at-visit .visit .kept .1 .1 .0)) .laid in ((omega (arith, k .whole), k .small), (k .room, omega (arith, k .few)))
+      let k = (ready-on _ _ _ _ _ _ _ _ _ _ _ _ _ _ _ _ (ready _ _ _ _ _ _ _ _ _ _ (start .pre .1 .0) (start .pre .1 .1 .0) (start .pre .1 .1 .1 .0)) (omega (arith, at-operand .operand .ensures, (start .pre .1 .1 .1 .1 .0))) (at-visit .visit .ensures) (went _ _ _ (at-is-refused .is-refused .ensures) (at-if1 .if1 .left)) (at-visit .visit .kept .1 .0) (at-visit .visit .kept .1 .1 .0)) .laid in ((omega (arith, k .whole), k .small), (k .room, omega (arith, k .few)))
 
   choice-of-requires : lts.Need-choice-of-requires claims (process-ite-at t) process-ite.Post
   choice-of-requires c κs = search needs
@@ -84,7 +84,7 @@ module _ (t : ℕ) where
       let at-visit = at-is-refused .before .before .before .before .before .before in
       let at-operand = at-visit .before in
       let start = at-operand .before .before .before .before .before .before .before in
-      let r = (ready-on _ _ _ _ _ _ _ _ _ _ _ _ _ _ _ (ready _ _ _ _ _ _ _ _ _ (start .pre .1 .0) (start .pre .1 .1 .0) (start .pre .1 .1 .1 .0)) (omega (arith, at-operand .operand .ensures, (start .pre .1 .1 .1 .1 .0))) (at-visit .visit .ensures) (went _ _ _ (at-is-refused .is-refused .ensures) (at-if1 .if1 .left)) (at-visit .visit .kept .1 .0) (at-visit .visit .kept .1 .1 .0)) in (omega (arith, start .pre .0), (r .laid, ((start .pre .1 .1 .0), (r .fresh, ((start .pre .1 .1 .1 .1 .1 .0), (sym (at-is-refused .is-refused .ensures) ∙ at-if1 .if1 .left))))))
+      let r = (ready-on _ _ _ _ _ _ _ _ _ _ _ _ _ _ _ _ (ready _ _ _ _ _ _ _ _ _ _ (start .pre .1 .0) (start .pre .1 .1 .0) (start .pre .1 .1 .1 .0)) (omega (arith, at-operand .operand .ensures, (start .pre .1 .1 .1 .1 .0))) (at-visit .visit .ensures) (went _ _ _ (at-is-refused .is-refused .ensures) (at-if1 .if1 .left)) (at-visit .visit .kept .1 .0) (at-visit .visit .kept .1 .1 .0)) in (omega (arith, start .pre .0), (r .laid, ((start .pre .1 .1 .0), (r .fresh, ((start .pre .1 .1 .1 .1 .1 .0), (sym (at-is-refused .is-refused .ensures) ∙ at-if1 .if1 .left))))))
 
   enum-told-2 : lts.Need-enum-told-2 claims (process-ite-at t) process-ite.Post
   enum-told-2 c = search needs
@@ -96,7 +96,7 @@ module _ (t : ℕ) where
       let at-visit = at-is-refused .before .before .before .before .before .before in
       let at-operand = at-visit .before in
       let start = at-operand .before .before .before .before .before .before .before in
-      let r = (ready-on _ _ _ _ _ _ _ _ _ _ _ _ _ _ _ (ready _ _ _ _ _ _ _ _ _ (start .pre .1 .0) (start .pre .1 .1 .0) (start .pre .1 .1 .1 .0)) (omega (arith, at-operand .operand .ensures, (start .pre .1 .1 .1 .1 .0))) (at-visit .visit .ensures) (went _ _ _ (at-is-refused .is-refused .ensures) (at-if1 .if1 .left)) (at-visit .visit .kept .1 .0) (at-visit .visit .kept .1 .1 .0)) in (omega (arith, start .pre .0), (r .laid, ((start .pre .1 .1 .0), (r .fresh, ((start .pre .1 .1 .1 .1 .1 .1 .0), (sym (at-is-refused .is-refused .ensures) ∙ at-if1 .if1 .left))))))
+      let r = (ready-on _ _ _ _ _ _ _ _ _ _ _ _ _ _ _ _ (ready _ _ _ _ _ _ _ _ _ _ (start .pre .1 .0) (start .pre .1 .1 .0) (start .pre .1 .1 .1 .0)) (omega (arith, at-operand .operand .ensures, (start .pre .1 .1 .1 .1 .0))) (at-visit .visit .ensures) (went _ _ _ (at-is-refused .is-refused .ensures) (at-if1 .if1 .left)) (at-visit .visit .kept .1 .0) (at-visit .visit .kept .1 .1 .0)) in (omega (arith, start .pre .0), (r .laid, ((start .pre .1 .1 .0), (r .fresh, ((start .pre .1 .1 .1 .1 .1 .1 .0), (sym (at-is-refused .is-refused .ensures) ∙ at-if1 .if1 .left))))))
 
   enum-told-3 : lts.Need-enum-told-3 claims (process-ite-at t) process-ite.Post
   enum-told-3 c = search needs
@@ -108,7 +108,7 @@ module _ (t : ℕ) where
       let at-visit = at-is-refused .before .before .before .before .before .before in
       let at-operand = at-visit .before in
       let start = at-operand .before .before .before .before .before .before .before in
-      let r = (ready-on _ _ _ _ _ _ _ _ _ _ _ _ _ _ _ (ready _ _ _ _ _ _ _ _ _ (start .pre .1 .0) (start .pre .1 .1 .0) (start .pre .1 .1 .1 .0)) (omega (arith, at-operand .operand .ensures, (start .pre .1 .1 .1 .1 .0))) (at-visit .visit .ensures) (went _ _ _ (at-is-refused .is-refused .ensures) (at-if1 .if1 .left)) (at-visit .visit .kept .1 .0) (at-visit .visit .kept .1 .1 .0)) in (omega (arith, start .pre .0), (r .laid, ((start .pre .1 .1 .0), (r .fresh, ((start .pre .1 .1 .1 .1 .1 .0), ((start .pre .1 .1 .1 .1 .1 .1 .0), (sym (at-is-refused .is-refused .ensures) ∙ at-if1 .if1 .left)))))))
+      let r = (ready-on _ _ _ _ _ _ _ _ _ _ _ _ _ _ _ _ (ready _ _ _ _ _ _ _ _ _ _ (start .pre .1 .0) (start .pre .1 .1 .0) (start .pre .1 .1 .1 .0)) (omega (arith, at-operand .operand .ensures, (start .pre .1 .1 .1 .1 .0))) (at-visit .visit .ensures) (went _ _ _ (at-is-refused .is-refused .ensures) (at-if1 .if1 .left)) (at-visit .visit .kept .1 .0) (at-visit .visit .kept .1 .1 .0)) in (omega (arith, start .pre .0), (r .laid, ((start .pre .1 .1 .0), (r .fresh, ((start .pre .1 .1 .1 .1 .1 .0), ((start .pre .1 .1 .1 .1 .1 .1 .0), (sym (at-is-refused .is-refused .ensures) ∙ at-if1 .if1 .left)))))))
 
   same-length-3 : lts.Need-same-length-3 claims (process-ite-at t) process-ite.Post
   same-length-3 c =

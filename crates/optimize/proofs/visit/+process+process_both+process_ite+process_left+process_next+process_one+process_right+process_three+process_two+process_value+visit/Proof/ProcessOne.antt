@@ -73,7 +73,7 @@ module _ (t : ℕ) where
       let at-visit = at-is-refused .before .before .before .before .before .before in
       let at-operand = at-visit .before in
       let start = at-operand .before .before .before .before .before .before .before in
-      (((start .pre .1 .1 .0), (start .pre .1 .0) .small), (omega (arith, (start .pre .1 .0) .room, at-visit .visit .kept .1 .0), ready-kept _ _ _ _ _ _ _ _ _ (ready-on _ _ _ _ _ _ _ _ _ _ _ _ _ _ _ (ready _ _ _ _ _ _ _ _ _ (start .pre .1 .0) (start .pre .1 .1 .0) (start .pre .1 .1 .1 .0)) (omega (arith, at-operand .operand .ensures, (start .pre .1 .1 .1 .1 .0))) (at-visit .visit .ensures) (went _ _ _ (at-is-refused .is-refused .ensures) (at-if1 .if1 .left)) (at-visit .visit .kept .1 .0) (at-visit .visit .kept .1 .1 .0))))
+      (((start .pre .1 .1 .0), (start .pre .1 .0) .small), (omega (arith, (start .pre .1 .0) .room, at-visit .visit .kept .1 .0), ready-kept _ _ _ _ _ _ _ _ _ _ (ready-on _ _ _ _ _ _ _ _ _ _ _ _ _ _ _ _ (ready _ _ _ _ _ _ _ _ _ _ (start .pre .1 .0) (start .pre .1 .1 .0) (start .pre .1 .1 .1 .0)) (omega (arith, at-operand .operand .ensures, (start .pre .1 .1 .1 .1 .0))) (at-visit .visit .ensures) (went _ _ _ (at-is-refused .is-refused .ensures) (at-if1 .if1 .left)) (at-visit .visit .kept .1 .0) (at-visit .visit .kept .1 .1 .0))))
 
   after-one-requires : lts.Need-after-one-requires claims (process-one-at t) process-one.Post
   after-one-requires c κs =
@@ -83,7 +83,7 @@ module _ (t : ℕ) where
       let at-visit = at-is-refused .before .before .before .before .before .before in
       let at-operand = at-visit .before in
       let start = at-operand .before .before .before .before .before .before .before in
-      ((room-row _ _ _ _ _ _ (at-put-row .put-row .kept .1 .0) (ready-room _ _ _ _ _ _ _ _ _ (ready-on _ _ _ _ _ _ _ _ _ _ _ _ _ _ _ (ready _ _ _ _ _ _ _ _ _ (start .pre .1 .0) (start .pre .1 .1 .0) (start .pre .1 .1 .1 .0)) (omega (arith, at-operand .operand .ensures, (start .pre .1 .1 .1 .1 .0))) (at-visit .visit .ensures) (went _ _ _ (at-is-refused .is-refused .ensures) (at-if1 .if1 .left)) (at-visit .visit .kept .1 .0) (at-visit .visit .kept .1 .1 .0)))), (sym (at-is-refused .is-refused .ensures) ∙ at-if1 .if1 .left))
+      ((room-row _ _ _ _ _ _ (at-put-row .put-row .kept .1 .0) (ready-room _ _ _ _ _ _ _ _ _ _ (ready-on _ _ _ _ _ _ _ _ _ _ _ _ _ _ _ _ (ready _ _ _ _ _ _ _ _ _ _ (start .pre .1 .0) (start .pre .1 .1 .0) (start .pre .1 .1 .1 .0)) (omega (arith, at-operand .operand .ensures, (start .pre .1 .1 .1 .1 .0))) (at-visit .visit .ensures) (went _ _ _ (at-is-refused .is-refused .ensures) (at-if1 .if1 .left)) (at-visit .visit .kept .1 .0) (at-visit .visit .kept .1 .1 .0)))), (sym (at-is-refused .is-refused .ensures) ∙ at-if1 .if1 .left))
 
   same-length-3 : lts.Need-same-length-3 claims (process-one-at t) process-one.Post
   same-length-3 c =

@@ -67,7 +67,7 @@ module _ (t : ℕ) where
       let at-visit = at-is-refused .before .before .before .before .before .before in
       let at-operand = at-visit .before in
       let start = at-operand .before .before .before .before .before .before .before in
-      (omega (arith, start .pre .0, c .operand2 .ensures, (start .pre .1 .1 .1 .1 .1 .0)), ((ready-on _ _ _ _ _ _ _ _ _ _ _ _ _ _ _ (ready _ _ _ _ _ _ _ _ _ (start .pre .1 .0) (start .pre .1 .1 .0) (start .pre .1 .1 .1 .0)) (omega (arith, at-operand .operand .ensures, (start .pre .1 .1 .1 .1 .0))) (at-visit .visit .ensures) (went _ _ _ (at-is-refused .is-refused .ensures) (at-if1 .if1 .left)) (at-visit .visit .kept .1 .0) (at-visit .visit .kept .1 .1 .0)) .laid, (omega (arith, c .operand2 .ensures, (start .pre .1 .1 .1 .1 .1 .0), (start .pre .1 .1 .0)), (sym (at-is-refused .is-refused .ensures) ∙ at-if1 .if1 .left))))
+      (omega (arith, start .pre .0, c .operand2 .ensures, (start .pre .1 .1 .1 .1 .1 .0)), ((ready-on _ _ _ _ _ _ _ _ _ _ _ _ _ _ _ _ (ready _ _ _ _ _ _ _ _ _ _ (start .pre .1 .0) (start .pre .1 .1 .0) (start .pre .1 .1 .1 .0)) (omega (arith, at-operand .operand .ensures, (start .pre .1 .1 .1 .1 .0))) (at-visit .visit .ensures) (went _ _ _ (at-is-refused .is-refused .ensures) (at-if1 .if1 .left)) (at-visit .visit .kept .1 .0) (at-visit .visit .kept .1 .1 .0)) .laid, (omega (arith, c .operand2 .ensures, (start .pre .1 .1 .1 .1 .1 .0), (start .pre .1 .1 .0)), (sym (at-is-refused .is-refused .ensures) ∙ at-if1 .if1 .left))))
 
   is-refused-requires-2 : lts.Need-is-refused-requires-2 claims (process-three-at t) process-three.Post
   is-refused-requires-2 c κs = search needs
@@ -111,7 +111,7 @@ module _ (t : ℕ) where
       let at-visit = at-is-refused .before .before .before .before .before .before in
       let at-operand = at-visit .before in
       let start = at-operand .before .before .before .before .before .before .before in
-      (omega (arith, start .pre .0, c .operand3 .ensures, (start .pre .1 .1 .1 .1 .1 .1 .0)), ((ready-on _ _ _ _ _ _ _ _ _ _ _ _ _ _ _ (ready-on _ _ _ _ _ _ _ _ _ _ _ _ _ _ _ (ready _ _ _ _ _ _ _ _ _ (start .pre .1 .0) (start .pre .1 .1 .0) (start .pre .1 .1 .1 .0)) (omega (arith, at-operand .operand .ensures, (start .pre .1 .1 .1 .1 .0))) (at-visit .visit .ensures) (went _ _ _ (at-is-refused .is-refused .ensures) (at-if1 .if1 .left)) (at-visit .visit .kept .1 .0) (at-visit .visit .kept .1 .1 .0)) (omega (arith, at-operand2 .operand2 .ensures, (start .pre .1 .1 .1 .1 .1 .0))) (at-visit2 .visit2 .ensures) (went _ _ _ (at-is-refused2 .is-refused2 .ensures) (at-if2 .if2 .left)) (at-visit2 .visit2 .kept .1 .0) (at-visit2 .visit2 .kept .1 .1 .0)) .laid, (omega (arith, c .operand3 .ensures, (start .pre .1 .1 .1 .1 .1 .1 .0), (start .pre .1 .1 .0)), (sym (at-is-refused2 .is-refused2 .ensures) ∙ at-if2 .if2 .left))))
+      (omega (arith, start .pre .0, c .operand3 .ensures, (start .pre .1 .1 .1 .1 .1 .1 .0)), ((ready-on _ _ _ _ _ _ _ _ _ _ _ _ _ _ _ _ (ready-on _ _ _ _ _ _ _ _ _ _ _ _ _ _ _ _ (ready _ _ _ _ _ _ _ _ _ _ (start .pre .1 .0) (start .pre .1 .1 .0) (start .pre .1 .1 .1 .0)) (omega (arith, at-operand .operand .ensures, (start .pre .1 .1 .1 .1 .0))) (at-visit .visit .ensures) (went _ _ _ (at-is-refused .is-refused .ensures) (at-if1 .if1 .left)) (at-visit .visit .kept .1 .0) (at-visit .visit .kept .1 .1 .0)) (omega (arith, at-operand2 .operand2 .ensures, (start .pre .1 .1 .1 .1 .1 .0))) (at-visit2 .visit2 .ensures) (went _ _ _ (at-is-refused2 .is-refused2 .ensures) (at-if2 .if2 .left)) (at-visit2 .visit2 .kept .1 .0) (at-visit2 .visit2 .kept .1 .1 .0)) .laid, (omega (arith, c .operand3 .ensures, (start .pre .1 .1 .1 .1 .1 .1 .0), (start .pre .1 .1 .0)), (sym (at-is-refused2 .is-refused2 .ensures) ∙ at-if2 .if2 .left))))
 
   is-refused-requires-3 : lts.Need-is-refused-requires-3 claims (process-three-at t) process-three.Post
   is-refused-requires-3 c κs = search needs
@@ -159,7 +159,7 @@ module _ (t : ℕ) where
       let at-visit = at-is-refused .before .before .before .before .before .before in
       let at-operand = at-visit .before in
       let start = at-operand .before .before .before .before .before .before .before in
-      (((start .pre .1 .1 .0), (start .pre .1 .0) .small), (omega (arith, (start .pre .1 .0) .room, at-visit .visit .kept .1 .0, at-visit2 .visit2 .kept .1 .0, at-visit3 .visit3 .kept .1 .0), ready-kept _ _ _ _ _ _ _ _ _ (ready-on _ _ _ _ _ _ _ _ _ _ _ _ _ _ _ (ready-on _ _ _ _ _ _ _ _ _ _ _ _ _ _ _ (ready-on _ _ _ _ _ _ _ _ _ _ _ _ _ _ _ (ready _ _ _ _ _ _ _ _ _ (start .pre .1 .0) (start .pre .1 .1 .0) (start .pre .1 .1 .1 .0)) (omega (arith, at-operand .operand .ensures, (start .pre .1 .1 .1 .1 .0))) (at-visit .visit .ensures) (went _ _ _ (at-is-refused .is-refused .ensures) (at-if1 .if1 .left)) (at-visit .visit .kept .1 .0) (at-visit .visit .kept .1 .1 .0)) (omega (arith, at-operand2 .operand2 .ensures, (start .pre .1 .1 .1 .1 .1 .0))) (at-visit2 .visit2 .ensures) (went _ _ _ (at-is-refused2 .is-refused2 .ensures) (at-if2 .if2 .left)) (at-visit2 .visit2 .kept .1 .0) (at-visit2 .visit2 .kept .1 .1 .0)) (omega (arith, at-operand3 .operand3 .ensures, (start .pre .1 .1 .1 .1 .1 .1 .0))) (at-visit3 .visit3 .ensures) (went _ _ _ (at-is-refused3 .is-refused3 .ensures) (c .before .if3 .left)) (at-visit3 .visit3 .kept .1 .0) (at-visit3 .visit3 .kept .1 .1 .0))))
+      (((start .pre .1 .1 .0), (start .pre .1 .0) .small), (omega (arith, (start .pre .1 .0) .room, at-visit .visit .kept .1 .0, at-visit2 .visit2 .kept .1 .0, at-visit3 .visit3 .kept .1 .0), ready-kept _ _ _ _ _ _ _ _ _ _ (ready-on _ _ _ _ _ _ _ _ _ _ _ _ _ _ _ _ (ready-on _ _ _ _ _ _ _ _ _ _ _ _ _ _ _ _ (ready-on _ _ _ _ _ _ _ _ _ _ _ _ _ _ _ _ (ready _ _ _ _ _ _ _ _ _ _ (start .pre .1 .0) (start .pre .1 .1 .0) (start .pre .1 .1 .1 .0)) (omega (arith, at-operand .operand .ensures, (start .pre .1 .1 .1 .1 .0))) (at-visit .visit .ensures) (went _ _ _ (at-is-refused .is-refused .ensures) (at-if1 .if1 .left)) (at-visit .visit .kept .1 .0) (at-visit .visit .kept .1 .1 .0)) (omega (arith, at-operand2 .operand2 .ensures, (start .pre .1 .1 .1 .1 .1 .0))) (at-visit2 .visit2 .ensures) (went _ _ _ (at-is-refused2 .is-refused2 .ensures) (at-if2 .if2 .left)) (at-visit2 .visit2 .kept .1 .0) (at-visit2 .visit2 .kept .1 .1 .0)) (omega (arith, at-operand3 .operand3 .ensures, (start .pre .1 .1 .1 .1 .1 .1 .0))) (at-visit3 .visit3 .ensures) (went _ _ _ (at-is-refused3 .is-refused3 .ensures) (c .before .if3 .left)) (at-visit3 .visit3 .kept .1 .0) (at-visit3 .visit3 .kept .1 .1 .0))))
 
   settle-requires : lts.Need-settle-requires claims (process-three-at t) process-three.Post
   settle-requires c κs =
@@ -177,7 +177,7 @@ module _ (t : ℕ) where
       let at-visit = at-is-refused .before .before .before .before .before .before in
       let at-operand = at-visit .before in
       let start = at-operand .before .before .before .before .before .before .before in
-      let q = (ready-room _ _ _ _ _ _ _ _ _ (ready-on _ _ _ _ _ _ _ _ _ _ _ _ _ _ _ (ready-on _ _ _ _ _ _ _ _ _ _ _ _ _ _ _ (ready-on _ _ _ _ _ _ _ _ _ _ _ _ _ _ _ (ready _ _ _ _ _ _ _ _ _ (start .pre .1 .0) (start .pre .1 .1 .0) (start .pre .1 .1 .1 .0)) (omega (arith, at-operand .operand .ensures, (start .pre .1 .1 .1 .1 .0))) (at-visit .visit .ensures) (went _ _ _ (at-is-refused .is-refused .ensures) (at-if1 .if1 .left)) (at-visit .visit .kept .1 .0) (at-visit .visit .kept .1 .1 .0)) (omega (arith, at-operand2 .operand2 .ensures, (start .pre .1 .1 .1 .1 .1 .0))) (at-visit2 .visit2 .ensures) (went _ _ _ (at-is-refused2 .is-refused2 .ensures) (at-if2 .if2 .left)) (at-visit2 .visit2 .kept .1 .0) (at-visit2 .visit2 .kept .1 .1 .0)) (omega (arith, at-operand3 .operand3 .ensures, (start .pre .1 .1 .1 .1 .1 .1 .0))) (at-visit3 .visit3 .ensures) (went _ _ _ (at-is-refused3 .is-refused3 .ensures) (at-if3 .if3 .left)) (at-visit3 .visit3 .kept .1 .0) (at-visit3 .visit3 .kept .1 .1 .0))) in ((omega (arith, q .whole), q .small, q .inside), ((omega (arith, q .room, at-put-row .put-row .kept .1 .0), omega (arith, q .asks)), (q .few, (sym (at-is-refused3 .is-refused3 .ensures) ∙ at-if3 .if3 .left))))
+      let q = (ready-room _ _ _ _ _ _ _ _ _ _ (ready-on _ _ _ _ _ _ _ _ _ _ _ _ _ _ _ _ (ready-on _ _ _ _ _ _ _ _ _ _ _ _ _ _ _ _ (ready-on _ _ _ _ _ _ _ _ _ _ _ _ _ _ _ _ (ready _ _ _ _ _ _ _ _ _ _ (start .pre .1 .0) (start .pre .1 .1 .0) (start .pre .1 .1 .1 .0)) (omega (arith, at-operand .operand .ensures, (start .pre .1 .1 .1 .1 .0))) (at-visit .visit .ensures) (went _ _ _ (at-is-refused .is-refused .ensures) (at-if1 .if1 .left)) (at-visit .visit .kept .1 .0) (at-visit .visit .kept .1 .1 .0)) (omega (arith, at-operand2 .operand2 .ensures, (start .pre .1 .1 .1 .1 .1 .0))) (at-visit2 .visit2 .ensures) (went _ _ _ (at-is-refused2 .is-refused2 .ensures) (at-if2 .if2 .left)) (at-visit2 .visit2 .kept .1 .0) (at-visit2 .visit2 .kept .1 .1 .0)) (omega (arith, at-operand3 .operand3 .ensures, (start .pre .1 .1 .1 .1 .1 .1 .0))) (at-visit3 .visit3 .ensures) (went _ _ _ (at-is-refused3 .is-refused3 .ensures) (at-if3 .if3 .left)) (at-visit3 .visit3 .kept .1 .0) (at-visit3 .visit3 .kept .1 .1 .0))) in ((omega (arith, q .whole), q .small, q .inside), ((omega (arith, q .room, at-put-row .put-row .kept .1 .0), omega (arith, q .asks)), (q .few, (sym (at-is-refused3 .is-refused3 .ensures) ∙ at-if3 .if3 .left))))
 
   same-length-7 : lts.Need-same-length-7 claims (process-three-at t) process-three.Post
   same-length-7 c =

@@ -70,7 +70,7 @@ module _ (t : ℕ) where
       let at-visit = at-is-refused .before .before .before .before .before .before in
       let at-operand = at-visit .before in
       let start = at-operand .before .before .before .before .before .before .before in
-      (omega (arith, start .pre .0, c .operand2 .ensures, (start .pre .1 .1 .1 .1 .1 .0)), ((ready-on _ _ _ _ _ _ _ _ _ _ _ _ _ _ _ (ready _ _ _ _ _ _ _ _ _ (start .pre .1 .0) (start .pre .1 .1 .0) (start .pre .1 .1 .1 .0)) (omega (arith, at-operand .operand .ensures, (start .pre .1 .1 .1 .1 .0))) (at-visit .visit .ensures) (went _ _ _ (at-is-refused .is-refused .ensures) (at-if1 .if1 .left)) (at-visit .visit .kept .1 .0) (at-visit .visit .kept .1 .1 .0)) .laid, (omega (arith, c .operand2 .ensures, (start .pre .1 .1 .1 .1 .1 .0), (start .pre .1 .1 .0)), (sym (at-is-refused .is-refused .ensures) ∙ at-if1 .if1 .left))))
+      (omega (arith, start .pre .0, c .operand2 .ensures, (start .pre .1 .1 .1 .1 .1 .0)), ((ready-on _ _ _ _ _ _ _ _ _ _ _ _ _ _ _ _ (ready _ _ _ _ _ _ _ _ _ _ (start .pre .1 .0) (start .pre .1 .1 .0) (start .pre .1 .1 .1 .0)) (omega (arith, at-operand .operand .ensures, (start .pre .1 .1 .1 .1 .0))) (at-visit .visit .ensures) (went _ _ _ (at-is-refused .is-refused .ensures) (at-if1 .if1 .left)) (at-visit .visit .kept .1 .0) (at-visit .visit .kept .1 .1 .0)) .laid, (omega (arith, c .operand2 .ensures, (start .pre .1 .1 .1 .1 .1 .0), (start .pre .1 .1 .0)), (sym (at-is-refused .is-refused .ensures) ∙ at-if1 .if1 .left))))
 
   is-refused-requires-2 : lts.Need-is-refused-requires-2 claims (process-two-at t) process-two.Post
   is-refused-requires-2 c κs = search needs
@@ -114,7 +114,7 @@ module _ (t : ℕ) where
       let at-visit = at-is-refused .before .before .before .before .before .before in
       let at-operand = at-visit .before in
       let start = at-operand .before .before .before .before .before .before .before in
-      (((start .pre .1 .1 .0), (start .pre .1 .0) .small), (omega (arith, (start .pre .1 .0) .room, at-visit .visit .kept .1 .0, at-visit2 .visit2 .kept .1 .0), ready-kept _ _ _ _ _ _ _ _ _ (ready-on _ _ _ _ _ _ _ _ _ _ _ _ _ _ _ (ready-on _ _ _ _ _ _ _ _ _ _ _ _ _ _ _ (ready _ _ _ _ _ _ _ _ _ (start .pre .1 .0) (start .pre .1 .1 .0) (start .pre .1 .1 .1 .0)) (omega (arith, at-operand .operand .ensures, (start .pre .1 .1 .1 .1 .0))) (at-visit .visit .ensures) (went _ _ _ (at-is-refused .is-refused .ensures) (at-if1 .if1 .left)) (at-visit .visit .kept .1 .0) (at-visit .visit .kept .1 .1 .0)) (omega (arith, at-operand2 .operand2 .ensures, (start .pre .1 .1 .1 .1 .1 .0))) (at-visit2 .visit2 .ensures) (went _ _ _ (at-is-refused2 .is-refused2 .ensures) (at-if2 .if2 .left)) (at-visit2 .visit2 .kept .1 .0) (at-visit2 .visit2 .kept .1 .1 .0))))
+      (((start .pre .1 .1 .0), (start .pre .1 .0) .small), (omega (arith, (start .pre .1 .0) .room, at-visit .visit .kept .1 .0, at-visit2 .visit2 .kept .1 .0), ready-kept _ _ _ _ _ _ _ _ _ _ (ready-on _ _ _ _ _ _ _ _ _ _ _ _ _ _ _ _ (ready-on _ _ _ _ _ _ _ _ _ _ _ _ _ _ _ _ (ready _ _ _ _ _ _ _ _ _ _ (start .pre .1 .0) (start .pre .1 .1 .0) (start .pre .1 .1 .1 .0)) (omega (arith, at-operand .operand .ensures, (start .pre .1 .1 .1 .1 .0))) (at-visit .visit .ensures) (went _ _ _ (at-is-refused .is-refused .ensures) (at-if1 .if1 .left)) (at-visit .visit .kept .1 .0) (at-visit .visit .kept .1 .1 .0)) (omega (arith, at-operand2 .operand2 .ensures, (start .pre .1 .1 .1 .1 .1 .0))) (at-visit2 .visit2 .ensures) (went _ _ _ (at-is-refused2 .is-refused2 .ensures) (at-if2 .if2 .left)) (at-visit2 .visit2 .kept .1 .0) (at-visit2 .visit2 .kept .1 .1 .0))))
 
   after-two-requires : lts.Need-after-two-requires claims (process-two-at t) process-two.Post
   after-two-requires c κs =
@@ -128,7 +128,7 @@ module _ (t : ℕ) where
       let at-visit = at-is-refused .before .before .before .before .before .before in
       let at-operand = at-visit .before in
       let start = at-operand .before .before .before .before .before .before .before in
-      ((room-row _ _ _ _ _ _ (at-put-row .put-row .kept .1 .0) (ready-room _ _ _ _ _ _ _ _ _ (ready-on _ _ _ _ _ _ _ _ _ _ _ _ _ _ _ (ready-on _ _ _ _ _ _ _ _ _ _ _ _ _ _ _ (ready _ _ _ _ _ _ _ _ _ (start .pre .1 .0) (start .pre .1 .1 .0) (start .pre .1 .1 .1 .0)) (omega (arith, at-operand .operand .ensures, (start .pre .1 .1 .1 .1 .0))) (at-visit .visit .ensures) (went _ _ _ (at-is-refused .is-refused .ensures) (at-if1 .if1 .left)) (at-visit .visit .kept .1 .0) (at-visit .visit .kept .1 .1 .0)) (omega (arith, at-operand2 .operand2 .ensures, (start .pre .1 .1 .1 .1 .1 .0))) (at-visit2 .visit2 .ensures) (went _ _ _ (at-is-refused2 .is-refused2 .ensures) (at-if2 .if2 .left)) (at-visit2 .visit2 .kept .1 .0) (at-visit2 .visit2 .kept .1 .1 .0)))), ((sym (at-is-refused2 .is-refused2 .ensures) ∙ at-if2 .if2 .left), falls-row [] (start .args .given .now) (inputsIn (start .args .given .now) (start .args .call .now)) (repliesIn (start .args .given .now) (start .args .call .now)) _ _ (start .args .scratch .now) (walkIn (at-visit2 .visit2 .last .1 .1 .1 .1 .1 .0)) (start .args .node) _ _ _ (kindIs (start .args .kind)) (start .pre .1 .1 .1 .1 .1 .1 .0) (start .pre .1 .1 .1 .1 .1 .1 .1 .0) (at-put-row .put-row .ensures [] (inputsIn (start .args .given .now) (start .args .call .now)) (repliesIn (start .args .given .now) (start .args .call .now)) (start .args .scratch .now) _) (ready-falls _ _ _ _ _ _ _ _ _ (ready-on _ _ _ _ _ _ _ _ _ _ _ _ _ _ _ (ready-on _ _ _ _ _ _ _ _ _ _ _ _ _ _ _ (ready _ _ _ _ _ _ _ _ _ (start .pre .1 .0) (start .pre .1 .1 .0) (start .pre .1 .1 .1 .0)) (omega (arith, at-operand .operand .ensures, (start .pre .1 .1 .1 .1 .0))) (at-visit .visit .ensures) (went _ _ _ (at-is-refused .is-refused .ensures) (at-if1 .if1 .left)) (at-visit .visit .kept .1 .0) (at-visit .visit .kept .1 .1 .0)) (omega (arith, at-operand2 .operand2 .ensures, (start .pre .1 .1 .1 .1 .1 .0))) (at-visit2 .visit2 .ensures) (went _ _ _ (at-is-refused2 .is-refused2 .ensures) (at-if2 .if2 .left)) (at-visit2 .visit2 .kept .1 .0) (at-visit2 .visit2 .kept .1 .1 .0)))))
+      ((room-row _ _ _ _ _ _ (at-put-row .put-row .kept .1 .0) (ready-room _ _ _ _ _ _ _ _ _ _ (ready-on _ _ _ _ _ _ _ _ _ _ _ _ _ _ _ _ (ready-on _ _ _ _ _ _ _ _ _ _ _ _ _ _ _ _ (ready _ _ _ _ _ _ _ _ _ _ (start .pre .1 .0) (start .pre .1 .1 .0) (start .pre .1 .1 .1 .0)) (omega (arith, at-operand .operand .ensures, (start .pre .1 .1 .1 .1 .0))) (at-visit .visit .ensures) (went _ _ _ (at-is-refused .is-refused .ensures) (at-if1 .if1 .left)) (at-visit .visit .kept .1 .0) (at-visit .visit .kept .1 .1 .0)) (omega (arith, at-operand2 .operand2 .ensures, (start .pre .1 .1 .1 .1 .1 .0))) (at-visit2 .visit2 .ensures) (went _ _ _ (at-is-refused2 .is-refused2 .ensures) (at-if2 .if2 .left)) (at-visit2 .visit2 .kept .1 .0) (at-visit2 .visit2 .kept .1 .1 .0)))), ((sym (at-is-refused2 .is-refused2 .ensures) ∙ at-if2 .if2 .left), falls-row [] (start .args .given .now) (inputsIn (start .args .given .now) (start .args .call .now)) (repliesIn (start .args .given .now) (start .args .call .now)) _ _ (start .args .scratch .now) (walkIn (at-visit2 .visit2 .last .1 .1 .1 .1 .1 .0)) (start .args .node) _ _ _ (kindIs (start .args .kind)) (start .pre .1 .1 .1 .1 .1 .1 .0) (start .pre .1 .1 .1 .1 .1 .1 .1 .0) (at-put-row .put-row .ensures [] (inputsIn (start .args .given .now) (start .args .call .now)) (repliesIn (start .args .given .now) (start .args .call .now)) (start .args .scratch .now) _) (ready-falls _ _ _ _ _ _ _ _ _ _ (ready-on _ _ _ _ _ _ _ _ _ _ _ _ _ _ _ _ (ready-on _ _ _ _ _ _ _ _ _ _ _ _ _ _ _ _ (ready _ _ _ _ _ _ _ _ _ _ (start .pre .1 .0) (start .pre .1 .1 .0) (start .pre .1 .1 .1 .0)) (omega (arith, at-operand .operand .ensures, (start .pre .1 .1 .1 .1 .0))) (at-visit .visit .ensures) (went _ _ _ (at-is-refused .is-refused .ensures) (at-if1 .if1 .left)) (at-visit .visit .kept .1 .0) (at-visit .visit .kept .1 .1 .0)) (omega (arith, at-operand2 .operand2 .ensures, (start .pre .1 .1 .1 .1 .1 .0))) (at-visit2 .visit2 .ensures) (went _ _ _ (at-is-refused2 .is-refused2 .ensures) (at-if2 .if2 .left)) (at-visit2 .visit2 .kept .1 .0) (at-visit2 .visit2 .kept .1 .1 .0)))))
 
   same-length-5 : lts.Need-same-length-5 claims (process-two-at t) process-two.Post
   same-length-5 c =
