@@ -24,6 +24,10 @@
 extern "C" {
 #endif
 
+/* The words of a node, and the mode above which none is taken. */
+#define GEMTWEED_ROW_WIDTH 6
+#define GEMTWEED_HIGHEST_MODE 7
+
 /* The limits of the sections. */
 #define GEMTWEED_MOST_NODES 4096
 #define GEMTWEED_MOST_ENTRIES 1024 /* of each list: sequentials, initial bad states, sequential bad states */
@@ -32,36 +36,41 @@ extern "C" {
 #define GEMTWEED_MOST_NAMES 4096
 #define GEMTWEED_LONGEST_NAME 64
 
+/* The room, in words, of each node, of each bad entry, and of a table without any. */
+#define GEMTWEED_NODE_ROOM 22
+#define GEMTWEED_BAD_ROOM 5
+#define GEMTWEED_LEAST_ROOM 22
+
 /* What a mode adds up. */
 enum { GEMTWEED_MINIMISE = 1, GEMTWEED_TERMINATE = 2, GEMTWEED_ONE_QUERY = 4 };
 
 /* Sorts, the second word of a node. */
-enum { GEMTWEED_BIT = 1, GEMTWEED_WORD = 2, GEMTWEED_MEMORY = 3 };
-#define GEMTWEED_BYTES(count) (10 + (count)) /* 1 to 7 */
+enum { GEMTWEED_BIT = 1, GEMTWEED_WORD = 2, GEMTWEED_MEMORY = 3, GEMTWEED_BYTE = 11 };
+#define GEMTWEED_BYTES(count) (GEMTWEED_BYTE - 1 + (count)) /* 1 to 7 */
 
 /* Kinds, the first word of a node. */
 enum {
     GEMTWEED_CONST = 1,
-    GEMTWEED_READ,
-    GEMTWEED_WRITE,
-    GEMTWEED_ADD,
-    GEMTWEED_SUB,
-    GEMTWEED_MUL,
-    GEMTWEED_DIVU,
-    GEMTWEED_DIV,
-    GEMTWEED_REM,
-    GEMTWEED_SLL,
-    GEMTWEED_SRL,
-    GEMTWEED_ULT,
-    GEMTWEED_EXT,
-    GEMTWEED_ITE,
-    GEMTWEED_EQ,
-    GEMTWEED_AND,
-    GEMTWEED_OR,
-    GEMTWEED_NOT,
-    GEMTWEED_STATE,
-    GEMTWEED_NEXT,
-    GEMTWEED_INPUT,
+    GEMTWEED_READ = 2,
+    GEMTWEED_WRITE = 3,
+    GEMTWEED_ADD = 4,
+    GEMTWEED_SUB = 5,
+    GEMTWEED_MUL = 6,
+    GEMTWEED_DIVU = 7,
+    GEMTWEED_DIV = 8,
+    GEMTWEED_REM = 9,
+    GEMTWEED_SLL = 10,
+    GEMTWEED_SRL = 11,
+    GEMTWEED_ULT = 12,
+    GEMTWEED_EXT = 13,
+    GEMTWEED_ITE = 14,
+    GEMTWEED_EQ = 15,
+    GEMTWEED_AND = 16,
+    GEMTWEED_OR = 17,
+    GEMTWEED_NOT = 18,
+    GEMTWEED_STATE = 19,
+    GEMTWEED_NEXT = 20,
+    GEMTWEED_INPUT = 21,
     GEMTWEED_BAD = 22
 };
 
@@ -94,7 +103,7 @@ enum {
 /* The number of an answer. 9 is not used. */
 enum {
     GEMTWEED_ACCEPTED = 0,
-    GEMTWEED_REFUSED_SHORT = 1,           /* a section is short, or something is left over; or a mode above 7 (section 0) */
+    GEMTWEED_REFUSED_SHORT = 1,           /* a section is short, or something is left over; or a mode is too high (section 0) */
     GEMTWEED_REFUSED_OVER_LIMIT,          /* a count or a name's length */
     GEMTWEED_REFUSED_MALFORMED,           /* an unknown kind or sort, a word that must be 0, or a name rule broken */
     GEMTWEED_REFUSED_OPERAND_NOT_BEFORE,  /* its node */
@@ -118,7 +127,8 @@ typedef struct {
 } gemtweed_answer;
 
 /* The words that result and scratch each need for so many nodes, sequentials, bad entries of both lists together, and inputs. */
-#define GEMTWEED_ROOM(nodes, sequentials, bads, inputs) (22 * (nodes) + 5 * (bads) + (sequentials) + (inputs) + 22)
+#define GEMTWEED_ROOM(nodes, sequentials, bads, inputs) \
+    (GEMTWEED_NODE_ROOM * (nodes) + GEMTWEED_BAD_ROOM * (bads) + (sequentials) + (inputs) + GEMTWEED_LEAST_ROOM)
 
 /* A fold: inputs and replies of the table both count. mode is a sum of those above, or 0. After an accepted call result has the
  * nine result sections and zeros after them; after a refusal it is all zeros. scratch is all zeros after every call. What the two held

@@ -1,15 +1,18 @@
 #!/usr/bin/env python3
 """Whole calls of the three entry points, each with every word that it leaves by docs/FORMAT.md.
 
-    tests/calls.py list                 the kept list, crates/call_limits/data/calls.list
+    tests/calls.py list                 the kept list, crates/call_limits/data/calls.list; oracle/regenerate writes it
+    tests/calls.py text NAME            a call of optimize_model_impl in the text form, a line for each section
     tests/calls.py compare PROGRAM      the calls that fit the text form, answered by `PROGRAM answer` (oracle/README.md)
 
 Nothing here folds a table: every answer is written beside its case. A case named wrong_answer_.. is one of the others with an
 answer that it does not have, and must be counted wrong.
 """
-from limits import (ADD, AND, BAD, BIT, BYTE, CONST, DIV, EQ, EXT, INPUT, ITE, MEMORY, MOST, MUL, NEXT, NOT, OR, READ,
-                    REM, ROOM, SLL, STATE, SUB, ULT, WORD, WRITE, Group, answers, flat, in_text_form, main, names_of,
-                    need, node, sections, size, text, wrong)
+from house import (ADD, AND, BAD, BIT, BYTE, BYTES, CONST, DIV, EQ, EXT, HIGHEST_MODE, INPUT, ITE, LARGEST, MEMORY,
+                   MOST_ENTRIES, MOST_INPUTS, MOST_NAMES, MOST_NODES, MOST_REPLIES, MUL, NEXT, NOT, OR, READ, REM, ROW_WIDTH,
+                   SLL, STATE, SUB, TABLE_WIDTHS, ULT, WORD, WRITE, cut, names_count, row)
+from limits import (EXAMPLE, HOLD_END, LEAST, MOST, ROOM, Group, answers, flat, in_text_form, main, names_of, need, node,
+                    sections, size, text, told, wrong)
 
 IMPL, WITH_SOLVER, WITH_INPUT = range(3)
 ENTRIES = {'impl': IMPL, 'with_solver': WITH_SOLVER, 'with_input': WITH_INPUT}
@@ -42,7 +45,7 @@ def left(nodes, made=(), replaced=(), sequentials=(), bads=(), later=(), inputs=
          looked=0, passed=0, verdict=NOT_ONE_QUERY):
     """The words of a result. Made constants are (sort, number), replacements (node, replacement), questions (kind,
     first, second, reply); the two shared constants and the tally's count are added."""
-    words = [size(nodes) // 6] + list(nodes) + entries([(1, 0), (1, 1)] + list(made), 2) + entries(replaced, 2)
+    words = [size(nodes) // ROW_WIDTH] + list(nodes) + entries([(BIT, 0), (BIT, 1)] + list(made), 2) + entries(replaced, 2)
     for part in (sequentials, bads, later, inputs):
         words += [size(part)] + list(part)
     return words + entries(questions, 4) + [5, taken, used, looked, passed, verdict]
@@ -50,8 +53,6 @@ def left(nodes, made=(), replaced=(), sequentials=(), bads=(), later=(), inputs=
 
 # --- the worked example
 
-EXAMPLE = [node(STATE, WORD, name=1), node(CONST, WORD, 12), node(ULT, BIT, 0, 1), node(BAD, BIT, 2)]
-HOLD_END = names_of(list(b'hold-end'))
 whole('the_worked_example', sections(EXAMPLE, bads=[3], inputs=[12]),
       left([node(STATE, WORD, name=1), node(CONST, WORD, 12), node(ULT, BIT, 6, 1), node(BAD, BIT, 4)],
            made=[(WORD, 12)], replaced=[(0, 6), (2, 4)], taken=1), HOLD_END)
@@ -137,7 +138,8 @@ def taken_by(sort, last, number):
                     inputs=[number])
 
 
-for sort, last in ((BYTE, 255), (12, 2**16 - 1), (17, 2**56 - 1), (WORD, MOST)):
+for sort in (BYTE, BYTE + 1, BYTES[-1], WORD):
+    last = LARGEST[sort]
     for entry_name, entry in (('impl', IMPL), ('with_input', WITH_INPUT)):
         whole('sort_%d_takes_%d_by_%s' % (sort, last, entry_name), taken_by(sort, last, last),
               left([node(STATE, sort), node(CONST, sort, last), node(EQ, BIT, 6, 1), node(BAD, BIT, 5)],
@@ -157,23 +159,24 @@ whole('byte_256_is_not_brought_by_with_solver', taken_by(BYTE, 255, 256),
 
 EMPTY = sections()
 for entry_name, entry in ENTRIES.items():
-    whole('empty_room_22_by_%s' % entry_name, EMPTY, left([]), entry=entry, result=22, scratch=22)
-    whole('empty_room_23_by_%s' % entry_name, EMPTY, left([]), entry=entry, result=23, scratch=23)
-    whole('empty_result_21_by_%s' % entry_name, EMPTY, refused(12, 8, 0), entry=entry, result=21, scratch=22)
-    whole('empty_scratch_21_by_%s' % entry_name, EMPTY, refused(12, 8, 1), entry=entry, result=22, scratch=21)
-    whole('empty_room_21_by_%s' % entry_name, EMPTY, refused(12, 8, 0), entry=entry, result=21, scratch=21)
+    for what, result, scratch, answer in (('room', 0, 0, left([])), ('room', 1, 1, left([])),
+                                          ('result', -1, 0, refused(12, 8, 0)), ('scratch', 0, -1, refused(12, 8, 1)),
+                                          ('room', -1, -1, refused(12, 8, 0))):
+        whole('empty_%s_%d_by_%s' % (what, LEAST + min(result, scratch), entry_name), EMPTY, answer, entry=entry,
+              result=LEAST + result, scratch=LEAST + scratch)
     whole('empty_room_0_by_%s' % entry_name, EMPTY, refused(12, 8, 0), entry=entry, result=0, scratch=0)
     whole('empty_result_0_by_%s' % entry_name, EMPTY, refused(12, 8, 0), entry=entry, result=0, scratch=ROOM)
     whole('empty_scratch_0_by_%s' % entry_name, EMPTY, refused(12, 8, 1), entry=entry, result=ROOM, scratch=0)
     whole('no_words_by_%s' % entry_name, [], refused(1, 1, 0), entry=entry, result=40, scratch=40)
     whole('no_names_by_%s' % entry_name, EMPTY, refused(1, 7, 0), [], entry=entry, result=40, scratch=40)
-for mode in range(8):
+MODES = range(HIGHEST_MODE + 1)
+for mode in MODES:
     whole('empty_mode_%d' % mode, EMPTY, left([], verdict=REMOVED_ALL if mode & ONE_QUERY else NOT_ONE_QUERY), mode=mode)
 for entry_name, entry in (('impl', IMPL), ('with_solver', WITH_SOLVER)):
-    whole('mode_8_by_%s' % entry_name, EMPTY, refused(1, 0, 0), mode=8, entry=entry)
+    whole('mode_%d_by_%s' % (HIGHEST_MODE + 1, entry_name), EMPTY, refused(1, 0, 0), mode=HIGHEST_MODE + 1, entry=entry)
     whole('mode_most_by_%s' % entry_name, EMPTY, refused(1, 0, 0), mode=MOST, entry=entry)
 
-# A Next that is kept, one that is dropped, a bad in each list, inputs and a reply: 22 * 11 + 5 * 2 + 2 + 2 + 22 words.
+# A Next that is kept, one that is dropped, a bad in each list, inputs and replies.
 ALL_KINDS = [
     node(CONST, WORD, 3),       # 0
     node(STATE, WORD, 0, 1),    # 1
@@ -201,7 +204,7 @@ ALL_LEFT = [
     node(BAD, BIT, 9),
 ]
 ALL_SECTIONS = sections(ALL_KINDS, [3, 5], [8], [10], [40, 41], [2, 1])
-ALL_NEED = 22 * 11 + 5 * 2 + 2 + 2 + 22
+ALL_NEED = need(flat(ALL_SECTIONS))
 ALL_RESULT = left(ALL_LEFT, [(WORD, 40)], [(4, 0), (6, 13)], [3], [8], [], [41],
                   [(SATISFIABLE, 7, 0, 2), (SATISFIABLE, 9, 0, 1)], taken=1, used=2)
 for what, result, scratch, answer in (('room', 0, 0, ALL_RESULT), ('more_room', 1, 1, ALL_RESULT),
@@ -222,9 +225,9 @@ for entry_name, entry in (('with_solver', WITH_SOLVER), ('with_input', WITH_INPU
     whole('every_section_scratch_one_short_by_%s' % entry_name, ALL_SECTIONS, refused(12, 8, 1), A_NAME, entry=entry,
           result=ALL_NEED, scratch=ALL_NEED - 1)
 
-# --- 4,096 nodes
+# --- as many nodes as a table may have
 
-N = 4096
+N = MOST_NODES
 
 
 def as_given(name, nodes, bads, questions, later=(), **more):
@@ -235,94 +238,101 @@ def as_given(name, nodes, bads, questions, later=(), **more):
 
 A_BIT, A_WORD, A_MEMORY = (node(INPUT, sort, name=1) for sort in (BIT, WORD, MEMORY))
 for entry_name, entry in ENTRIES.items():
-    as_given('nodes_4096_chain_of_not_by_%s' % entry_name, [A_BIT, node(NOT, BIT, (0, 1), times=4094), node(BAD, BIT, 4094)],
-             [4095], [(SATISFIABLE, 4094, 0, 0)], entry=entry)
-    whole('nodes_4097_chain_of_not_by_%s' % entry_name,
-          sections([A_BIT, node(NOT, BIT, (0, 1), times=4095), node(BAD, BIT, 4095)], bads=[4096]), refused(2, 1, 0), A_NAME,
+    as_given('nodes_%d_chain_of_not_by_%s' % (N, entry_name),
+             [A_BIT, node(NOT, BIT, (0, 1), times=N - 2), node(BAD, BIT, N - 2)], [N - 1], [(SATISFIABLE, N - 2, 0, 0)], entry=entry)
+    whole('nodes_%d_chain_of_not_by_%s' % (N + 1, entry_name),
+          sections([A_BIT, node(NOT, BIT, (0, 1), times=N - 1), node(BAD, BIT, N - 1)], bads=[N]), refused(2, 1, 0), A_NAME,
           entry=entry)
-as_given('nodes_4096_chain_of_add', [A_WORD, node(ADD, WORD, (0, 1), 0, times=4093), node(EQ, BIT, 4093, 0),
-                                     node(BAD, BIT, 4094)], [4095], [(SATISFIABLE, 4094, 0, 0)])
-as_given('nodes_4096_chain_of_states', [A_BIT, node(STATE, BIT, (0, 1), 1, times=4094), node(BAD, BIT, 4094)],
-         [4095], [(SATISFIABLE, 4094, 0, 0)])
+as_given('nodes_%d_chain_of_add' % N, [A_WORD, node(ADD, WORD, (0, 1), 0, times=N - 3), node(EQ, BIT, N - 3, 0),
+                                       node(BAD, BIT, N - 2)], [N - 1], [(SATISFIABLE, N - 2, 0, 0)])
+as_given('nodes_%d_chain_of_states' % N, [A_BIT, node(STATE, BIT, (0, 1), 1, times=N - 2), node(BAD, BIT, N - 2)],
+         [N - 1], [(SATISFIABLE, N - 2, 0, 0)])
 for what, operands in (('conditions', ((0, 1), 0, 0)), ('left_branches', (0, (0, 1), 0)), ('right_branches', (0, 0, (0, 1)))):
-    as_given('nodes_4096_chain_of_%s' % what, [A_BIT, node(ITE, BIT, *operands, times=4094), node(BAD, BIT, 4094)], [4095],
-             [(SATISFIABLE, 4094, 0, 0)])
-whole('nodes_4096_chain_of_settled_branches',
-      sections([A_BIT, node(CONST, BIT, 1), node(ITE, BIT, 1, 0, 0), node(ITE, BIT, 1, (2, 1), 0, times=4092),
-                node(BAD, BIT, 4094)], bads=[4095]),
-      left([A_BIT, node(CONST, BIT, 1), node(ITE, BIT, N + 1, 0, 0, times=4093), node(BAD, BIT, 0)],
-           replaced=[(1, N + 1), Group(4093, (2, 1), 0)], bads=[4095], questions=[(SATISFIABLE, 0, 0, 0)]), A_NAME)
-as_given('nodes_4096_wide', [A_BIT, node(NOT, BIT, 0, times=2047), node(BAD, BIT, (0, 1), times=2048)],
-         [Group(1024, (2048, 1))], [Group(2048, SATISFIABLE, (0, 1), 0, 0)], [Group(1024, (3072, 1))])
-whole('nodes_4096_all_fold',
-      sections([node(CONST, WORD, 0), node(NOT, WORD, (0, 1), times=4093), node(EQ, BIT, 4093, 0), node(BAD, BIT, 4094)],
-               later=[4095]),
-      left([node(CONST, WORD, 0), node(NOT, WORD, 0), node(NOT, WORD, (N + 2, 1), times=4092),
-            node(EQ, BIT, N + 4094, 0), node(BAD, BIT, N)],
-           made=[Group(2046, WORD, MOST, WORD, 0), (WORD, MOST)],
-           replaced=[Group(4093, (1, 1), (N + 2, 1)), (4094, N)]))
-# 2,044 writes of the word 2 at 5, each read at once: a read gives the 2, which the next write stores.
+    as_given('nodes_%d_chain_of_%s' % (N, what), [A_BIT, node(ITE, BIT, *operands, times=N - 2), node(BAD, BIT, N - 2)],
+             [N - 1], [(SATISFIABLE, N - 2, 0, 0)])
+whole('nodes_%d_chain_of_settled_branches' % N,
+      sections([A_BIT, node(CONST, BIT, 1), node(ITE, BIT, 1, 0, 0), node(ITE, BIT, 1, (2, 1), 0, times=N - 4),
+                node(BAD, BIT, N - 2)], bads=[N - 1]),
+      left([A_BIT, node(CONST, BIT, 1), node(ITE, BIT, N + 1, 0, 0, times=N - 3), node(BAD, BIT, 0)],
+           replaced=[(1, N + 1), Group(N - 3, (2, 1), 0)], bads=[N - 1], questions=[(SATISFIABLE, 0, 0, 0)]), A_NAME)
+# half of the nodes are Bads, in two lists that are full
+HALF, E = N // 2, MOST_ENTRIES
+assert HALF == 2 * E
+as_given('nodes_%d_wide' % N, [A_BIT, node(NOT, BIT, 0, times=HALF - 1), node(BAD, BIT, (0, 1), times=HALF)],
+         [Group(E, (HALF, 1))], [Group(HALF, SATISFIABLE, (0, 1), 0, 0)], [Group(E, (HALF + E, 1))])
+whole('nodes_%d_all_fold' % N,
+      sections([node(CONST, WORD, 0), node(NOT, WORD, (0, 1), times=N - 3), node(EQ, BIT, N - 3, 0), node(BAD, BIT, N - 2)],
+               later=[N - 1]),
+      left([node(CONST, WORD, 0), node(NOT, WORD, 0), node(NOT, WORD, (N + 2, 1), times=N - 4),
+            node(EQ, BIT, N + N - 2, 0), node(BAD, BIT, N)],
+           made=[Group(HALF - 2, WORD, MOST, WORD, 0), (WORD, MOST)],
+           replaced=[Group(N - 3, (1, 1), (N + 2, 1)), (N - 2, N)]))
+# writes of the word 2 at 5, each read at once: a read gives the 2, which the next write stores.
+W = HALF - 4
 READS = [A_MEMORY, node(CONST, WORD, 5), A_WORD, node(WRITE, MEMORY, 0, 1, 2), node(READ, WORD, 3, 1)]
-LAST_READS = [node(BAD, BIT, 4091), node(CONST, WORD, 7, times=3)]
-whole('nodes_4096_each_write_read_at_once',
-      sections(READS + [Group(2043, WRITE, MEMORY, (3, 2), 1, (4, 2), 0, READ, WORD, (5, 2), 1, 0, 0),
-                        node(ULT, BIT, 4090, 1)] + LAST_READS, bads=[4092]),
-      left(READS + [Group(2043, WRITE, MEMORY, (3, 2), 1, 2, 0, READ, WORD, (5, 2), 1, 0, 0), node(ULT, BIT, 2, 1)]
-           + LAST_READS, replaced=[Group(2044, (4, 2), 2)], bads=[4092], questions=[(SATISFIABLE, 4091, 0, 0)],
-           looked=2044), A_NAME)
+LAST_READS = [node(BAD, BIT, N - 5), node(CONST, WORD, 7, times=3)]
+
+
+def pairs(write, read):
+    """A Write and a Read of it, again and again; operands are those of the first two, and how they grow."""
+    return Group(W - 1, *row(WRITE, MEMORY, *write), *row(READ, WORD, *read))
+
+
+whole('nodes_%d_each_write_read_at_once' % N,
+      sections(READS + [pairs(((3, 2), 1, (4, 2)), ((5, 2), 1)), node(ULT, BIT, N - 6, 1)] + LAST_READS, bads=[N - 4]),
+      left(READS + [pairs(((3, 2), 1, 2), ((5, 2), 1)), node(ULT, BIT, 2, 1)] + LAST_READS, replaced=[Group(W, (4, 2), 2)],
+           bads=[N - 4], questions=[(SATISFIABLE, N - 5, 0, 0)], looked=W), A_NAME)
 # The same writes, read at 6, where none of them stores: every read looks at all writes below it.
 MISSES = [A_MEMORY, node(CONST, WORD, 5), A_WORD, node(CONST, WORD, 6), node(WRITE, MEMORY, 0, 1, 2),
-          node(READ, WORD, 4, 3), Group(2043, WRITE, MEMORY, (4, 2), 1, (5, 2), 0, READ, WORD, (6, 2), 3, 0, 0),
-          node(ULT, BIT, 4091, 1), node(BAD, BIT, 4092), node(CONST, WORD, 7, times=2)]
-whole('nodes_4096_reads_that_find_nothing', sections(MISSES, bads=[4093]),
-      left(MISSES, bads=[4093], questions=[(SATISFIABLE, 4092, 0, 0)], looked=2044 * 2045 // 2), A_NAME)
-whole('nodes_4096_asked_twice_each', sections([A_BIT, node(AND, BIT, (0, 1), 0, times=4094), node(BAD, BIT, 4094)],
-                                              bads=[4095], replies=[Group(16384, 0)]),
-      left([A_BIT, node(AND, BIT, (0, 1), 0, times=4094), node(BAD, BIT, 4094)], bads=[4095],
-           questions=[Group(4094, ALWAYS_TRUE, (1, 1), 0, 0, ALWAYS_FALSE, (1, 1), 0, 0), (SATISFIABLE, 4094, 0, 0)],
-           used=8189), A_NAME, MINIMISE)
-ITES = [A_BIT, A_BIT, A_BIT, node(ITE, BIT, 0, 1, 2, times=1024), node(BAD, BIT, (3, 1), times=1024)]
-whole('ites_1024_asked_three_times_each', sections(ITES, bads=[Group(1024, (1027, 1))], later=[Group(1024, (1027, 1))]),
-      left(ITES, bads=[Group(1024, (1027, 1))], later=[Group(1024, (1027, 1))],
-           questions=[Group(1024, ALWAYS_TRUE, (3, 1), 0, 0, ALWAYS_FALSE, (3, 1), 0, 0, EQUAL, (3, 1), 0, 0,
-                            SATISFIABLE, (3, 1), 0, 0), Group(1024, SATISFIABLE, (3, 1), 0, 0)]), A_NAME, MINIMISE)
+          node(READ, WORD, 4, 3), pairs(((4, 2), 1, (5, 2)), ((6, 2), 3)), node(ULT, BIT, N - 5, 1), node(BAD, BIT, N - 4),
+          node(CONST, WORD, 7, times=2)]
+whole('nodes_%d_reads_that_find_nothing' % N, sections(MISSES, bads=[N - 3]),
+      left(MISSES, bads=[N - 3], questions=[(SATISFIABLE, N - 4, 0, 0)], looked=W * (W + 1) // 2), A_NAME)
+ANDS = [A_BIT, node(AND, BIT, (0, 1), 0, times=N - 2), node(BAD, BIT, N - 2)]
+whole('nodes_%d_asked_twice_each' % N, sections(ANDS, bads=[N - 1], replies=[Group(MOST_REPLIES, 0)]),
+      left(ANDS, bads=[N - 1],
+           questions=[Group(N - 2, ALWAYS_TRUE, (1, 1), 0, 0, ALWAYS_FALSE, (1, 1), 0, 0), (SATISFIABLE, N - 2, 0, 0)],
+           used=2 * (N - 2) + 1), A_NAME, MINIMISE)
+ITES = [A_BIT, A_BIT, A_BIT, node(ITE, BIT, 0, 1, 2, times=E), node(BAD, BIT, (3, 1), times=E)]
+whole('ites_%d_asked_three_times_each' % E, sections(ITES, bads=[Group(E, (E + 3, 1))], later=[Group(E, (E + 3, 1))]),
+      left(ITES, bads=[Group(E, (E + 3, 1))], later=[Group(E, (E + 3, 1))],
+           questions=[Group(E, ALWAYS_TRUE, (3, 1), 0, 0, ALWAYS_FALSE, (3, 1), 0, 0, EQUAL, (3, 1), 0, 0,
+                            SATISFIABLE, (3, 1), 0, 0), Group(E, SATISFIABLE, (3, 1), 0, 0)]), A_NAME, MINIMISE)
 
 # --- lists at their limits
 
-KEPT = [node(CONST, WORD, 5), node(STATE, WORD, 0, 1, times=1024), node(CONST, WORD, 6),
-        node(NEXT, WORD, (1, 1), 1025, times=1024)]
-whole('sequentials_1024_kept', sections(KEPT, [Group(1024, (1026, 1))]), left(KEPT, sequentials=[Group(1024, (1026, 1))]))
-DROPPED = [node(CONST, WORD, 5), node(STATE, WORD, 0, 1, times=1024), node(NEXT, WORD, (1, 1), 0, times=1024)]
-whole('sequentials_1024_dropped', sections(DROPPED, [Group(1024, (1025, 1))]),
-      left(DROPPED, replaced=[Group(1024, (1, 1), 0)]))
-whole('inputs_1024_taken',
-      sections([node(STATE, BIT, times=1024), node(BAD, BIT, (0, 1), times=1024)], bads=[Group(1024, (1024, 1))],
-               inputs=[Group(512, 1, 0), 9]),
-      left([node(STATE, BIT, times=1024), node(BAD, BIT, (2050, 1), times=1024)], made=[Group(512, BIT, 1, BIT, 0)],
-           replaced=[Group(1024, (0, 1), (2050, 1))], bads=[Group(512, (1024, 2))], inputs=[9], taken=1024))
+KEPT = [node(CONST, WORD, 5), node(STATE, WORD, 0, 1, times=E), node(CONST, WORD, 6), node(NEXT, WORD, (1, 1), E + 1, times=E)]
+whole('sequentials_%d_kept' % E, sections(KEPT, [Group(E, (E + 2, 1))]), left(KEPT, sequentials=[Group(E, (E + 2, 1))]))
+DROPPED = [node(CONST, WORD, 5), node(STATE, WORD, 0, 1, times=E), node(NEXT, WORD, (1, 1), 0, times=E)]
+whole('sequentials_%d_dropped' % E, sections(DROPPED, [Group(E, (E + 1, 1))]), left(DROPPED, replaced=[Group(E, (1, 1), 0)]))
+whole('inputs_%d_taken' % E,
+      sections([node(STATE, BIT, times=E), node(BAD, BIT, (0, 1), times=E)], bads=[Group(E, (E, 1))],
+               inputs=[Group(E // 2, 1, 0), 9]),
+      left([node(STATE, BIT, times=E), node(BAD, BIT, (2 * E + 2, 1), times=E)], made=[Group(E // 2, BIT, 1, BIT, 0)],
+           replaced=[Group(E, (0, 1), (2 * E + 2, 1))], bads=[Group(E // 2, (E, 2))], inputs=[9], taken=E))
 FULL = DROPPED + [
     node(CONST, BIT, 1),
-    node(STATE, WORD, 0, 0, 0, (1, 1), times=1023),
-    node(INPUT, MEMORY, 0, 0, 0, (2049, 1), times=1022),
+    node(STATE, WORD, 0, 0, 0, (1, 1), times=E - 1),
+    node(INPUT, MEMORY, 0, 0, 0, (2 * E + 1, 1), times=N - 3 * E - 2),
 ]
 whole('every_count_at_its_limit',
-      sections(FULL + [node(BAD, BIT, 2049, name=4096)], [Group(1024, (1025, 1))], [Group(1024, 4095)], [Group(1024, 4095)],
-               [Group(4096, MOST)], [Group(16384, MOST)]),
-      left(FULL + [node(BAD, BIT, N + 1, name=4096)], replaced=[Group(1024, (1, 1), 0), (2049, N + 1)],
-           bads=[Group(1024, 4095)], later=[Group(1024, 4095)], inputs=[Group(4096, MOST)]),
-      [0, 16, Group(4096, 0)], result=ROOM, scratch=ROOM)
+      sections(FULL + [node(BAD, BIT, 2 * E + 1, name=MOST_NAMES)], [Group(E, (E + 1, 1))], [Group(E, N - 1)], [Group(E, N - 1)],
+               [Group(MOST_INPUTS, MOST)], [Group(MOST_REPLIES, MOST)]),
+      left(FULL + [node(BAD, BIT, N + 1, name=MOST_NAMES)], replaced=[Group(E, (1, 1), 0), (2 * E + 1, N + 1)],
+           bads=[Group(E, N - 1)], later=[Group(E, N - 1)], inputs=[Group(MOST_INPUTS, MOST)]),
+      [*names_count(MOST_NAMES), Group(MOST_NAMES, 0)], result=ROOM, scratch=ROOM)
 
 # --- refusals met in the walk, after much was written
 
-CHAIN_THEN_TRUE = [A_BIT, node(NOT, BIT, (0, 1), times=4092), node(BAD, BIT, 4092), node(CONST, BIT, 1), node(BAD, BIT, 4094)]
+CHAIN_THEN_TRUE = [A_BIT, node(NOT, BIT, (0, 1), times=N - 4), node(BAD, BIT, N - 4), node(CONST, BIT, 1), node(BAD, BIT, N - 2)]
 for entry_name, entry in (('impl', IMPL), ('with_solver', WITH_SOLVER)):
-    whole('bad_always_true_after_4094_nodes_by_%s' % entry_name, sections(CHAIN_THEN_TRUE, bads=[4093], later=[4095]),
-          refused(13, 4, 0), A_NAME, TERMINATE, entry)
-whole('bad_always_true_after_4094_nodes_without_terminate', sections(CHAIN_THEN_TRUE, bads=[4093], later=[4095]),
-      left(CHAIN_THEN_TRUE[:4] + [node(BAD, BIT, N + 1)], replaced=[(4094, N + 1)], bads=[4093], later=[4095],
-           questions=[(SATISFIABLE, 4092, 0, 0)]), A_NAME)
-whole('bad_always_true_by_with_input', sections(CHAIN_THEN_TRUE, bads=[4095]),
-      left(CHAIN_THEN_TRUE[:4] + [node(BAD, BIT, N + 1)], replaced=[(4094, N + 1)], bads=[4095]), A_NAME, entry=WITH_INPUT)
+    whole('bad_always_true_after_%d_nodes_by_%s' % (N - 2, entry_name),
+          sections(CHAIN_THEN_TRUE, bads=[N - 3], later=[N - 1]), refused(13, 4, 0), A_NAME, TERMINATE, entry)
+whole('bad_always_true_after_%d_nodes_without_terminate' % (N - 2), sections(CHAIN_THEN_TRUE, bads=[N - 3], later=[N - 1]),
+      left(CHAIN_THEN_TRUE[:4] + [node(BAD, BIT, N + 1)], replaced=[(N - 2, N + 1)], bads=[N - 3], later=[N - 1],
+           questions=[(SATISFIABLE, N - 4, 0, 0)]), A_NAME)
+whole('bad_always_true_by_with_input', sections(CHAIN_THEN_TRUE, bads=[N - 1]),
+      left(CHAIN_THEN_TRUE[:4] + [node(BAD, BIT, N + 1)], replaced=[(N - 2, N + 1)], bads=[N - 1]), A_NAME, entry=WITH_INPUT)
 FALSE_OPEN_TRUE = [node(CONST, BIT, 0), A_BIT, node(CONST, BIT, 1), node(BAD, BIT, 0), node(BAD, BIT, 1), node(BAD, BIT, 2)]
 false, open_, true = 3, 4, 5
 for section, part in ((3, 'bads'), (4, 'later')):
@@ -339,7 +349,7 @@ whole('satisfiable_before_always_true', sections(FALSE_OPEN_TRUE, bads=[open_], 
       refused(14, 3, 0), A_NAME, TERMINATE)
 whole('always_true_before_satisfiable', sections(FALSE_OPEN_TRUE, bads=[true], later=[open_], replies=[2]),
       refused(13, 3, 0), A_NAME, TERMINATE)
-whole('satisfiable_after_4094_nodes', sections(CHAIN_THEN_TRUE, bads=[4093], replies=[2]), refused(14, 3, 0), A_NAME,
+whole('satisfiable_after_%d_nodes' % (N - 2), sections(CHAIN_THEN_TRUE, bads=[N - 3], replies=[2]), refused(14, 3, 0), A_NAME,
       TERMINATE)
 for reply in (3, 4, 2**32, MOST):
     whole('reply_%d_to_the_fourth_question' % reply,
@@ -351,7 +361,7 @@ whole('reply_not_brought_by_with_input', sections(FALSE_OPEN_TRUE, bads=[open_],
       left(FALSE_OPEN_TRUE, bads=[open_], questions=[(SATISFIABLE, 1, 0, 0)]), A_NAME, entry=WITH_INPUT)
 whole('reply_refused_by_with_solver', sections(FALSE_OPEN_TRUE, bads=[open_], replies=[MOST]), refused(11, 6, 0), A_NAME,
       entry=WITH_SOLVER)
-whole('reply_after_4094_nodes', sections(CHAIN_THEN_TRUE, bads=[4093], replies=[3]), refused(11, 6, 0), A_NAME)
+whole('reply_after_%d_nodes' % (N - 2), sections(CHAIN_THEN_TRUE, bads=[N - 3], replies=[3]), refused(11, 6, 0), A_NAME)
 
 # --- states that take no input
 
@@ -400,7 +410,7 @@ def next_kept(taken, init):
             node(NEXT, BIT, 3, 7)]
 
 
-for mode in range(8):
+for mode in MODES:
     whole('kept_next_visits_its_state_in_mode_%d' % mode, sections(KEPT, [5], inputs=[7]),
           left(next_kept(8, 2), made=[(WORD, 7)], replaced=[(1, 8), (4, 7)], sequentials=[5],
                questions=OPEN_INIT if mode & MINIMISE else [], taken=1,
@@ -423,7 +433,7 @@ for sort, number, answer in ((BIT, 2, refused(10, 1, 0)), (MEMORY, 0, refused(8,
 TWO_NEXTS = [node(CONST, WORD, 3), node(STATE, WORD, 0, 1), node(CONST, WORD, 5), node(NEXT, WORD, 1, 1),
              node(NEXT, WORD, 1, 2)]
 NO_INIT = [node(STATE, WORD), node(CONST, WORD, 5), node(NEXT, WORD, 0, 1)]
-for mode in range(8):
+for mode in MODES:
     whole('dropped_and_second_next_in_mode_%d' % mode, sections(TWO_NEXTS, [3, 4]), refused(7, 2, 1), mode=mode)
     whole('kept_and_second_next_in_mode_%d' % mode, sections(TWO_NEXTS, [4, 3]), refused(7, 2, 1), mode=mode)
     whole('next_of_a_state_without_init_in_mode_%d' % mode, sections(NO_INIT, [2], inputs=[7]), refused(6, 2, 0), mode=mode)
@@ -524,7 +534,7 @@ def bits(name, kind, sort, x, y, stands, made=()):
 
 
 FIRST, SECOND, MADE = 0, 1, 7
-TOPS = {11: 2**8 - 1, 12: 2**16 - 1, 13: 2**24 - 1, 14: 2**32 - 1, 15: 2**40 - 1, 16: 2**48 - 1, 17: 2**56 - 1, WORD: MOST}
+TOPS = {sort: LARGEST[sort] for sort in (*BYTES, WORD)}
 for sort, top in TOPS.items():
     half = (top + 1) // 2
     bits('top_less_1_and_2', AND, sort, top - 1, 2, MADE, [(sort, 2)])
@@ -542,12 +552,12 @@ for sort, top in TOPS.items():
     bits('right_zero', OR, sort, 5, 0, FIRST)
     bits('left_top', OR, sort, top, 5, FIRST)
     bits('right_top', OR, sort, 5, top, SECOND)
-for sort, narrower in ((12, 11), (13, 12), (14, 13), (15, 14), (16, 15), (17, 16), (WORD, 17)):
+for narrower, sort in zip(TOPS, (*BYTES[1:], WORD)):
     # the top of a narrower sort is not all ones
     bits('top_of_%d_and_1' % narrower, AND, sort, TOPS[narrower], 1, MADE, [(sort, 1)])
     bits('top_of_%d_and_1' % narrower, OR, sort, TOPS[narrower], 1, MADE, [(sort, TOPS[narrower])])
-bits('255_and_65280_is_0', AND, 12, 255, 65280, MADE, [(12, 0)])
-bits('255_and_65280_is_top', OR, 12, 255, 65280, MADE, [(12, 65535)])
+bits('255_and_65280_is_0', AND, BYTE + 1, 255, 65280, MADE, [(BYTE + 1, 0)])
+bits('255_and_65280_is_top', OR, BYTE + 1, 255, 65280, MADE, [(BYTE + 1, 65535)])
 for kind_name, kind, values in (('and', AND, (0, 0, 0, 1)), ('or', OR, (0, 1, 1, 1))):
     # of two bits none is made: 0 or 1 always is all zeros or all ones, and the shared constants stand for both
     for x, y, value in zip((0, 0, 1, 1), (0, 1, 0, 1), values):
@@ -626,12 +636,12 @@ for sort, top in TOPS.items():
           sections(nodes + [node(AND, sort, 1, 0), node(EQ, BIT, 2, 0), node(BAD, BIT, 3)], bads=[4], inputs=[top - 1]),
           left(nodes + [node(AND, sort, 7, 0), node(EQ, BIT, 8, 0), node(BAD, BIT, 6)], made=[(sort, top - 1), (sort, 2)],
                replaced=[(1, 7), (2, 8), (3, 6)], bads=[4], taken=1))
-# a constant for each of 4,092 Ands of bytes: 1 of 3 and 5, then 1 of that 1 and 3
-whole('nodes_4096_byte_ands_all_fold',
-      sections(MADE_1 + [node(AND, BYTE, (2, 1), 0, times=4091), node(EQ, BIT, 4093, 0), node(BAD, BIT, 4094)],
-               later=[4095]),
-      left(MADE_1 + [node(AND, BYTE, (N + 2, 1), 0, times=4091), node(EQ, BIT, N + 4093, 0), node(BAD, BIT, N)],
-           made=[Group(4092, BYTE, 1)], replaced=[Group(4092, (2, 1), (N + 2, 1)), (4094, N)]))
+# a constant for each of as many Ands of bytes as there can be: 1 of 3 and 5, then 1 of that 1 and 3
+whole('nodes_%d_byte_ands_all_fold' % N,
+      sections(MADE_1 + [node(AND, BYTE, (2, 1), 0, times=N - 5), node(EQ, BIT, N - 3, 0), node(BAD, BIT, N - 2)],
+               later=[N - 1]),
+      left(MADE_1 + [node(AND, BYTE, (N + 2, 1), 0, times=N - 5), node(EQ, BIT, N + N - 3, 0), node(BAD, BIT, N)],
+           made=[Group(N - 4, BYTE, 1)], replaced=[Group(N - 4, (2, 1), (N + 2, 1)), (N - 2, N)]))
 
 # --- wrong answers, each in one small way: who overlooks it counts too few. The list cannot say of scratch, or of the words after the
 # result, that they are not 0.
@@ -648,7 +658,7 @@ def but(words, place, more):
     return changed
 
 
-def told(answer):
+def kept_as(answer):
     """The refusal and the words of the result that the list has for an answer; a wrong one is both."""
     if isinstance(answer, list):
         return DONE, answer
@@ -656,7 +666,7 @@ def told(answer):
 
 
 def plain(answer):
-    refusal, words = told(answer)
+    refusal, words = kept_as(answer)
     return refusal, flat(words)
 
 
@@ -667,9 +677,9 @@ def wrong_call(what, name, refusal, words=()):
 def wrong_sort(what, name, constant, sort):
     """That case with another sort for its last made constant, which is (sort, number)."""
     words = flat(next(call for call in calls if call[0] == name)[-1])
-    at = 1 + 6 * words[0] + 2 * words[1 + 6 * words[0]]
-    assert (words[at - 1], words[at]) == constant, name
-    return wrong_call(what, name, DONE, words[:at - 1] + [sort] + words[at:])
+    at = cut(words, (ROW_WIDTH, 2))[1] - 2
+    assert (words[at], words[at + 1]) == constant, name
+    return wrong_call(what, name, DONE, words[:at] + [sort] + words[at + 1:])
 
 
 wrong_calls = [
@@ -677,34 +687,34 @@ wrong_calls = [
     wrong_call('middle_word', 'every_section_room', DONE, but(ALL_WORDS, len(ALL_WORDS) // 2, 1)),
     wrong_call('last_word', 'every_section_room', DONE, but(ALL_WORDS, -1, 1)),
     wrong_call('highest_bit_of_a_word', 'every_section_room', DONE, but(ALL_WORDS, -2, 2**63)),
-    wrong_call('last_word_of_an_empty_result', 'empty_room_22_by_with_solver', DONE, but(EMPTY_WORDS, -1, 1)),
+    wrong_call('last_word_of_an_empty_result', 'empty_room_%d_by_with_solver' % LEAST, DONE, but(EMPTY_WORDS, -1, 1)),
     # a word that is 0 stands after the result as well, so that the count alone is wrong
     wrong_call('one_word_missing', 'every_section_room', DONE, ALL_WORDS[:-1]),
     wrong_call('one_word_more', 'every_section_room', DONE, ALL_WORDS + [0]),
     wrong_call('one_word_more_is_not_0', 'every_section_more_room', DONE, ALL_WORDS + [1]),
-    wrong_call('more_words_than_room', 'empty_room_22_by_impl', DONE, EMPTY_WORDS + [0] * 5),
-    wrong_call('all_words_missing', 'empty_room_22_by_impl', DONE),
+    wrong_call('more_words_than_room', 'empty_room_%d_by_impl' % LEAST, DONE, EMPTY_WORDS + [0] * 5),
+    wrong_call('all_words_missing', 'empty_room_%d_by_impl' % LEAST, DONE),
     wrong_call('accepted_with_a_number', 'every_section_room', (1, 0, 0), ALL_WORDS),
     wrong_call('accepted_with_a_section', 'every_section_room', (0, 1, 0), ALL_WORDS),
     wrong_call('accepted_with_a_position', 'every_section_room', (0, 0, 1), ALL_WORDS),
-    wrong_call('accepted_as_refused', 'empty_room_22_by_impl', (12, 8, 0)),
+    wrong_call('accepted_as_refused', 'empty_room_%d_by_impl' % LEAST, (12, 8, 0)),
     wrong_call('number_one_more', 'section_3_third_is_always_true', (14, 3, 2)),
     wrong_call('section_one_more', 'section_3_third_is_always_true', (13, 4, 2)),
     wrong_call('position_one_less', 'section_3_third_is_always_true', (13, 3, 1)),
     wrong_call('refused_with_a_word', 'section_3_third_is_always_true', (13, 3, 2), [0]),
-    wrong_call('refused_as_accepted', 'empty_result_21_by_impl', DONE),
-    wrong_call('refused_number_alone_as_accepted', 'mode_8_by_impl', DONE),
-    wrong_call('refused_as_accepted_with_words', 'empty_result_21_by_impl', DONE, EMPTY_WORDS),
+    wrong_call('refused_as_accepted', 'empty_result_%d_by_impl' % (LEAST - 1), DONE),
+    wrong_call('refused_number_alone_as_accepted', 'mode_%d_by_impl' % (HIGHEST_MODE + 1), DONE),
+    wrong_call('refused_as_accepted_with_words', 'empty_result_%d_by_impl' % (LEAST - 1), DONE, EMPTY_WORDS),
     # the refusal that is withdrawn, and a kept Next that does not visit its state
     wrong_call('refused_9', 'kept_next_visits_its_state_in_mode_0', (9, 1, 5)),
     wrong_call('state_not_visited', 'kept_next_visits_its_state_in_mode_0', DONE,
                flat(left(KEPT[:5] + [node(NEXT, BIT, 3, 7)], replaced=[(4, 7)], sequentials=[5], inputs=[7]))),
-    # another sort for a made constant: a word for bytes, as the Rust has it, a byte for a word, the operand's for an Ext, one byte more
+    # another sort for a made constant: a word for bytes, a byte for a word, the operand's for an Ext, one byte more
     wrong_sort('byte_and_as_a_word', 'byte_and_3_and_5_stays_a_byte_by_impl', (BYTE, 1), WORD),
-    wrong_sort('or_of_7_bytes_as_a_word', 'or_sort_17_top_half_and_1', (17, 2**55 + 1), WORD),
+    wrong_sort('or_of_7_bytes_as_a_word', 'or_sort_%d_top_half_and_1' % BYTES[-1], (BYTES[-1], 2**55 + 1), WORD),
     wrong_sort('word_and_as_a_byte', 'word_and_3_and_5_stays_a_word_by_impl', (WORD, 1), BYTE),
     wrong_sort('ext_with_its_operands_sort', 'ext_of_a_made_byte_is_a_word_in_mode_0', (WORD, 1), BYTE),
-    wrong_sort('or_of_2_bytes_as_3', 'or_sort_12_top_half_and_1', (12, 2**15 + 1), 13),
+    wrong_sort('or_of_2_bytes_as_3', 'or_sort_%d_top_half_and_1' % (BYTE + 1), (BYTE + 1, 2**15 + 1), BYTE + 2),
     wrong_sort('not_of_a_byte_as_a_word', 'not_of_a_made_byte_in_mode_0', (BYTE, 254), WORD),
 ]
 
@@ -713,7 +723,7 @@ wrong_calls = [
 
 def lines():
     for name, entry, mode, result, scratch, words, names, answer in wrong_calls + calls:
-        refusal, kept = told(answer)
+        refusal, kept = kept_as(answer)
         yield '%s %d %d %d %d | %s | %s | %d %d %d | %s' % (
             (name, entry, mode, result, scratch, text(words), text(names)) + refusal + (text(kept),))
 
@@ -723,13 +733,9 @@ def brought(entry, mode, words):
     are no whole table."""
     if entry == IMPL:
         return mode, words
-    parts, at = [], 0
-    for width in (6, 1, 1, 1, 1, 1):
-        if at >= len(words):
-            return None
-        end = at + 1 + width * words[at]
-        parts.append(words[at:end])
-        at = end
+    parts, _ = cut(words, TABLE_WIDTHS)
+    if len(parts) < len(TABLE_WIDTHS):
+        return None
     if entry == WITH_SOLVER:
         return mode, sum(parts[:4], []) + [0] + parts[5]
     return 0, sum(parts[:5], []) + [0]
@@ -739,7 +745,7 @@ def compare(program):
     asked = []
     for name, entry, mode, result, scratch, words, names, answer in calls:
         call = brought(entry, mode, flat(words))
-        refusal, kept = told(answer)
+        refusal, kept = kept_as(answer)
         numbers = call and in_text_form(call[0], result, scratch, call[1], names, refusal)
         if numbers is not None:
             line = 'accepted ' + ' '.join(map(str, flat(kept))) if refusal == DONE else 'refused %d %d %d' % refusal
@@ -749,8 +755,15 @@ def compare(program):
         if line.strip() != answer:
             differing += 1
             print('%s: here %s, there %s' % (name, answer, line))
-    print('%d calls compared, %d differ' % (len(asked), differing))
+    return told(asked, differing)
+
+
+def text_form(name):
+    _, _, mode, _, _, words, names, _ = next(call for call in calls if call[0] == name)
+    low, high, *rest = flat(names)
+    for line in ([mode], *cut(flat(words), TABLE_WIDTHS)[0], [low + 256 * high, *rest]):
+        print(*line)
 
 
 if __name__ == '__main__':
-    main(lines, compare, __doc__)
+    main(lines, __doc__, compare=compare, text=text_form)

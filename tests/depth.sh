@@ -5,13 +5,18 @@
 set -eu
 
 program=$(realpath "${1:-target/bin/call_limits}")
+header=$(realpath "$(dirname "$0")/../include/gemtweed.h")
+house() { sed -n "s/^#define GEMTWEED_$1 \([0-9]*\).*/\1/p" "$header"; } # one of the house's numbers
+most=$(house MOST_NODES)
+node_room=$(house NODE_ROOM)
+other_room=$(($(house BAD_ROOM) + $(house LEAST_ROOM)))
 folder=$(mktemp -d)
 trap 'rm -r "$folder"' EXIT
 cd "$folder"
 
 # A line of the list: nodes, those left, replacements, the bad, its condition, writes looked at.
 line() {
-    room=$((22 * nodes + 27))
+    room=$((node_room * nodes + other_room))
     echo "call 0 0 $room $room | $nodes $1 0 1 $4 0 0 0 | 1 0 1 97 | 0 0 0 | $nodes $2 2 1 0 1 1 $3 0 1 $4 0 0 1 4 $5 0 0 5 0 0 $6 0 0"
 }
 
@@ -71,20 +76,21 @@ least() {
 
 chain nots 3 > calls.list
 echo "stack of the program itself: $(least)"
-echo "chain stack-2048 stack-4096 bytes-a-node"
+half_most=$((most / 2))
+echo "chain stack-$half_most stack-$most bytes-a-node"
 for kind in nots adds writes states conditions settled branches; do
-    chain $kind 2048 > calls.list
+    chain $kind $half_most > calls.list
     half=$(least)
-    chain $kind 4096 > calls.list
+    chain $kind "$most" > calls.list
     whole=$(least)
-    echo "$kind $half $whole $(((whole - half) / 2))"
+    echo "$kind $half $whole $(((whole - half) * 1024 / half_most))"
 done
 
 ulimit -S -s 32768
 echo "chain nodes instructions a-node"
 for kind in nots branches hits misses; do
-    for size in 512 1024 2048 4096; do
-        chain $kind $size > calls.list
+    for size in $((most / 8)) $((most / 4)) $half_most "$most"; do
+        chain $kind "$size" > calls.list
         right valgrind --tool=callgrind --toggle-collect=optimize::optimize::optimize --callgrind-out-file=out "$program" ||
             { echo "wrong answer: $kind $size" >&2; exit 1; }
         told=$(sed -n 's/^summary: //p' out)

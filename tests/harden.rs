@@ -10,6 +10,9 @@ use std::time::{Duration, Instant};
 
 mod rows;
 
+use rows::house::*;
+use rows::Row;
+
 // How long it may take until some run ends.
 const PATIENCE: Duration = Duration::from_secs(20);
 
@@ -50,16 +53,19 @@ fn random_bytes(random: &mut Random) -> Vec<u8> {
 
 // A number at which limits lie, or any.
 fn random_number(random: &mut Random) -> u64 {
-    let limits = [0, 1, 2, 3, 6, 7, 8, 11, 17, 18, 22, 23, 64, 65, 255, 256, 1024, 1025, 4096, 4097, 16384, 16385, u64::MAX];
+    let row = ROW_WIDTH as u64;
+    let codes = [0, BIT, WORD, MEMORY, row, HIGHEST_MODE, HIGHEST_MODE + 1, BYTE, BYTES_7, BYTES_7 + 1, BAD, BAD + 1];
+    let most = [LONGEST_NAME, 255, MOST_ENTRIES, MOST_NODES, MOST_REPLIES].map(|most| [most, most + 1]);
+    let limits = [&codes[..], most.as_flattened(), &[u64::MAX]].concat();
     match random.below(4) {
         0 => limits[random.below(limits.len())],
         1 => random.next(),
-        _ => random.next() % 24,
+        _ => random.next() % (BAD + 2),
     }
 }
 
 fn random_numbers(random: &mut Random) -> Vec<u8> {
-    let size = if random.below(50) == 0 { 4000 + random.below(200) } else { random.below(120) };
+    let size = if random.below(50) == 0 { MOST_NUMBERS - 96 + random.below(200) } else { random.below(120) };
     let numbers: Vec<String> = (0..size).map(|_| random_number(random).to_string()).collect();
     numbers.join(" ").into_bytes()
 }
@@ -101,34 +107,35 @@ fn mutated(random: &mut Random, texts: &[Vec<u8>]) -> Vec<u8> {
 
 // A table of one sort of bytes: a bit, constants, an Input and a State, Nots, Ites, Ands and Ors over them, a Next, and two Bads on tests.
 fn bytes_table(random: &mut Random) -> Vec<u8> {
-    let sort = 11 + random.next() % 7;
-    let most = (1 << (8 * (sort - 10))) - 1;
-    let bit = if random.below(2) == 0 { [21, 1, 0, 0, 0, 1] } else { [1, 1, random.next() % 2, 0, 0, 0] };
-    let mut rows = vec![bit, [21, sort, 0, 0, 0, 1], [19, sort, 0, 0, 0, 0]];
-    rows.extend([0, 1, most - 1, most, random.next() & most].map(|number| [1, sort, number, 0, 0, 0]));
+    let row = |kind: u64, sort: u64, [a, b, c]: [u64; 3], name: u64| -> Row { [kind, sort, a, b, c, name] };
+    let sort = BYTE + random.next() % (BYTES_7 - BYTE + 1);
+    let most = largest(sort).expect("a sort of bytes");
+    let bit = if random.below(2) == 0 { row(INPUT, BIT, [0; 3], 1) } else { row(CONST, BIT, [random.next() % 2, 0, 0], 0) };
+    let mut rows = vec![bit, row(INPUT, sort, [0; 3], 1), row(STATE, sort, [0; 3], 0)];
+    rows.extend([0, 1, most - 1, most, random.next() & most].map(|number| row(CONST, sort, [number, 0, 0], 0)));
     for _ in 0..1 + random.below(20) {
         let count = rows.len() as u64 - 1;
         let [a, b] = [1 + random.next() % count, 1 + random.next() % count];
         rows.push(match random.below(8) {
-            0 => [18, sort, a, 0, 0, 0],
-            1 => [14, sort, 0, a, b, 0],
-            _ => [16 + random.next() % 2, sort, a, b, 0, 0],
+            0 => row(NOT, sort, [a, 0, 0], 0),
+            1 => row(ITE, sort, [0, a, b], 0),
+            _ => row([AND, OR][random.below(2)], sort, [a, b, 0], 0),
         });
     }
     let last = rows.len() as u64 - 1;
     let init = 1 + random.next() % last;
     // a State with its Next, then whether two of them as words are below one another, and whether that State is its next value
     rows.extend([
-        [19, sort, init, 1, 0, 0],
-        [20, sort, last + 1, last, 0, 0],
-        [13, 2, last, sort, 0, 0],
-        [13, 2, init, sort, 0, 0],
-        [12, 1, last + 3, last + 4, 0, 0],
-        [22, 1, last + 5, 0, 0, 0],
-        [15, 1, last + 1, last, 0, 0],
-        [22, 1, last + 7, 0, 0, 0],
+        row(STATE, sort, [init, 1, 0], 0),
+        row(NEXT, sort, [last + 1, last, 0], 0),
+        row(EXT, WORD, [last, sort, 0], 0),
+        row(EXT, WORD, [init, sort, 0], 0),
+        row(ULT, BIT, [last + 3, last + 4, 0], 0),
+        row(BAD, BIT, [last + 5, 0, 0], 0),
+        row(EQ, BIT, [last + 1, last, 0], 0),
+        row(BAD, BIT, [last + 7, 0, 0], 0),
     ]);
-    let mut numbers = vec![random.next() % 8, rows.len() as u64];
+    let mut numbers = vec![random.next() % (HIGHEST_MODE + 1), rows.len() as u64];
     numbers.extend(rows.iter().flatten());
     // the three lists, an input, two replies and a name
     numbers.extend([1, last + 2, 1, last + 6, 1, last + 8, 1, random.next() & most, 2, 0, random.next() % 2, 1, 1, 120]);
@@ -174,8 +181,8 @@ fn answer(printed: &[u8]) -> Option<Answer> {
         return numbers(rest).filter(known).map(|_| Answer::Refused);
     }
     let mut sections = Vec::new();
-    for (line, width) in text.strip_prefix("accepted\n")?.split('\n').zip([6, 2, 2, 1, 1, 1, 1, 4, 1]) {
-        let section = numbers(line).filter(|n| n.len() as u64 == 1 + width * n[0])?;
+    for (line, width) in text.strip_prefix("accepted\n")?.split('\n').zip(RESULT_WIDTHS) {
+        let section = numbers(line).filter(|n| n.len() as u64 == 1 + width as u64 * n[0])?;
         sections.push(section[1..].to_vec());
     }
     (sections.len() == 9 && text.split('\n').count() == 10).then(|| Answer::Accepted(sections))

@@ -13,11 +13,11 @@ import re
 import subprocess
 import sys
 
+import house
+from house import BAD, BIT, BYTE, CONST, EQ, WORD
+
 ROOT = pathlib.Path(__file__).resolve().parent.parent
 SPECS = ROOT / "crates/btor/specs"
-KINDS = {"Add": 4, "Sub": 5, "Mul": 6, "Divu": 7, "Div": 8, "Rem": 9, "Sll": 10, "Srl": 11, "Ult": 12, "And": 16, "Or": 17}
-CONST, EQ, BAD = 1, 15, 22
-BIT, WORD, BYTE = 1, 2, 11
 READINGS = {"the Rust's": "rust", "the standard's": "standard"}
 RELATIONS = {"=": operator.eq, "not": operator.ne, "<": operator.lt, ">=": operator.ge}
 NAMES = "xyzpq"
@@ -77,6 +77,7 @@ OPERATORS = {
     "And": lambda x, y, w, how: x & y,
     "Or": lambda x, y, w, how: x | y,
 }
+KINDS = {name: house.KINDS[name.lower()] for name in OPERATORS}
 WHOLE = {"+": operator.add, "-": operator.sub, "^": operator.pow}
 
 
@@ -313,14 +314,14 @@ def model(form, at):
 
     def place(term):
         if isinstance(term, tuple) and term[0] in KINDS:
-            nodes.append([KINDS[term[0]], BIT if term[0] == "Ult" else sort, place(term[1]), place(term[2]), 0, 0])
+            nodes.append(house.row(KINDS[term[0]], BIT if term[0] == "Ult" else sort, place(term[1]), place(term[2])))
         else:
-            nodes.append([CONST, sort, value(term, 64, "rust", at), 0, 0, 0])
+            nodes.append(house.row(CONST, sort, value(term, 64, "rust", at)))
         return len(nodes) - 1
 
     sides = [place(side) for side in form.sides]
-    nodes.append([EQ, BIT, *sides, 0, 0])
-    nodes.append([BAD, BIT, len(nodes) - 1, 0, 0, 0])
+    nodes.append(house.row(EQ, BIT, *sides))
+    nodes.append(house.row(BAD, BIT, len(nodes) - 1))
     return nodes, sides
 
 

@@ -1,6 +1,6 @@
 #!/bin/sh
-# The static library from C and from Rust: builds it, runs the C example and compares what it prints, checks the header's names, which C++ must
-# take too where it is at hand, then the Rust crate's tests.
+# The static library from C and from Rust: builds it, runs the C example and compares what it prints with the worked example's answer and
+# tests/c/example.out, checks the header's names, which C++ must take too where it is at hand, then the Rust crate's tests.
 #     tests/library.sh [LIST]        LIST is a list of kept cases, crates/replay/data/cases.list unless given
 # Needs rt, cc and cargo, and no network.
 set -eu
@@ -16,7 +16,7 @@ for program in example names; do
     cc -std=c11 -Wall -Wextra -Werror -O2 -I include "tests/c/$program.c" target/staticlib/libgemtweed.a -o "$folder/$program"
 done
 "$folder/example" > "$folder/printed"
-diff tests/c/example.out "$folder/printed"
+cat crates/optimize_model/stdout tests/c/example.out | diff - "$folder/printed"
 "$folder/names" > "$folder/checked" || { cat "$folder/checked"; exit 1; }
 echo "C: as expected; names: $(cat "$folder/checked")"
 if c++ --version >/dev/null 2>&1; then

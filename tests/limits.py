@@ -1,7 +1,7 @@
 #!/usr/bin/env python3
 """The cases of crates/table_limits, each with the answer that docs/FORMAT.md demands.
 
-    tests/limits.py list                the kept list, data/limits.list
+    tests/limits.py list                the kept list, data/limits.list; oracle/regenerate writes it
     tests/limits.py compare PROGRAM     the calls that fit the text form, answered by `PROGRAM answer` (oracle/README.md)
 
 Nothing here judges a table: every answer is written beside its case. A case named wrong_answer_.. is one of the others with an
@@ -10,19 +10,17 @@ answer that it does not have, and must be counted wrong.
 import subprocess
 import sys
 
+from house import (ADD, BAD, BIT, BYTE, BYTES, CONST, EXT, HIGHEST_MODE, INPUT, ITE, KINDS, LARGEST, LONGEST_NAME, MEMORY,
+                   MOST_ENTRIES, MOST_INPUTS, MOST_NAMES, MOST_NODES, MOST_NUMBERS, MOST_REPLIES, NEXT, NOT, PROGRAM_NODES,
+                   PROGRAM_ROOM, READ, ROW_WIDTH, STATE, TABLE_WIDTHS, ULT, WORD, WRITE, cut, names_count, room, row)
+
 MOST = 2**64 - 1
-ROOM = 105494  # the largest need: 22 * 4096 + 5 * 2048 + 1024 + 4096 + 22
+ROOM = room(MOST_NODES, MOST_ENTRIES, 2 * MOST_ENTRIES, MOST_INPUTS)  # the largest need
+LEAST = room()
 ACCEPTED = (0, 0, 0)
 
-CONST, READ, WRITE, ADD, SUB, MUL, DIVU, DIV, REM, SLL, SRL = range(1, 12)
-ULT, EXT, ITE, EQ, AND, OR, NOT, STATE, NEXT, INPUT, BAD = range(12, 23)
-KINDS = {
-    'const': CONST, 'read': READ, 'write': WRITE, 'add': ADD, 'sub': SUB, 'mul': MUL, 'divu': DIVU, 'div': DIV,
-    'rem': REM, 'sll': SLL, 'srl': SRL, 'ult': ULT, 'ext': EXT, 'ite': ITE, 'eq': EQ, 'and': AND, 'or': OR,
-    'not': NOT, 'state': STATE, 'next': NEXT, 'input': INPUT, 'bad': BAD,
-}
+WRONG = 'wrong_answer_'
 ARITHMETIC = ['add', 'sub', 'mul', 'divu', 'div', 'rem', 'sll', 'srl']
-BIT, WORD, MEMORY, BYTE = 1, 2, 3, 11
 
 judged = []
 labelled = []
@@ -55,20 +53,25 @@ def size(items):
 
 
 def node(kind, sort, a=0, b=0, c=0, name=0, times=1):
-    return Group(times, kind, sort, a, b, c, name)
+    return Group(times, *row(kind, sort, a, b, c, name))
 
 
 def sections(nodes=(), sequentials=(), bads=(), later=(), inputs=(), replies=()):
-    words = [size(nodes) // 6] + list(nodes)
+    words = [size(nodes) // ROW_WIDTH] + list(nodes)
     for part in (sequentials, bads, later, inputs, replies):
         words += [size(part)] + list(part)
     return words
 
 
+def need(words):
+    """The room that a whole table needs."""
+    nodes, sequentials, bads, later, inputs, _ = (part[0] for part in cut(words, TABLE_WIDTHS)[0])
+    return room(nodes, sequentials, bads + later, inputs)
+
+
 def names_of(*names):
     """The names bytes, of names that are lists of bytes or groups."""
-    count = len(names)
-    out = [count % 256, count // 256]
+    out = names_count(len(names))
     for name in names:
         out += [size(name)] + list(name)
     return out
@@ -97,77 +100,78 @@ def sequential_table(states):
 
 # --- counts at their limits
 
-call('nodes_4096', ACCEPTED, sections(constants(4096)))
-call('nodes_4097', (2, 1, 0), sections(constants(4097)))
-call('nodes_4096_words_missing', (1, 1, 0), [4096])
-call('nodes_4096_last_word_missing', (1, 1, 0), [4096, Group(4095, 1, 2, 5, 0, 0, 0), 1, 2, 5, 0, 0])
-call('nodes_4097_words_missing', (2, 1, 0), [4097])
-CHAIN = [node(CONST, WORD, 5), node(ADD, WORD, (0, 1), (0, 1), times=4094)]
-call('nodes_4096_each_on_the_last', ACCEPTED, sections(CHAIN + [node(ADD, WORD, 4094, 4094)]))
-call('nodes_4096_last_unknown_kind', (3, 1, 4095), sections(CHAIN + [node(23, WORD, 4094, 4094)]))
-call('nodes_4096_last_on_itself', (4, 1, 4095), sections(CHAIN + [node(ADD, WORD, 4094, 4095)]))
-call('nodes_4096_last_wrong_sort', (5, 1, 4095), sections(CHAIN + [node(ADD, BIT, 4094, 4094)]))
-for count in (2**12 + 2**16, 2**32, 2**32 + 1, 2**62, 2**63, MOST):
+N, E, I, R = MOST_NODES, MOST_ENTRIES, MOST_INPUTS, MOST_REPLIES
+call('nodes_%d' % N, ACCEPTED, sections(constants(N)))
+call('nodes_%d' % (N + 1), (2, 1, 0), sections(constants(N + 1)))
+call('nodes_%d_words_missing' % N, (1, 1, 0), [N])
+call('nodes_%d_last_word_missing' % N, (1, 1, 0), [N, *constants(N - 1), *row(CONST, WORD, 5)[:-1]])
+call('nodes_%d_words_missing' % (N + 1), (2, 1, 0), [N + 1])
+CHAIN = [node(CONST, WORD, 5), node(ADD, WORD, (0, 1), (0, 1), times=N - 2)]
+call('nodes_%d_each_on_the_last' % N, ACCEPTED, sections(CHAIN + [node(ADD, WORD, N - 2, N - 2)]))
+call('nodes_%d_last_unknown_kind' % N, (3, 1, N - 1), sections(CHAIN + [node(BAD + 1, WORD, N - 2, N - 2)]))
+call('nodes_%d_last_on_itself' % N, (4, 1, N - 1), sections(CHAIN + [node(ADD, WORD, N - 2, N - 1)]))
+call('nodes_%d_last_wrong_sort' % N, (5, 1, N - 1), sections(CHAIN + [node(ADD, BIT, N - 2, N - 2)]))
+for count in (N + 2**16, 2**32, 2**32 + 1, 2**62, 2**63, MOST):
     call('nodes_%d' % count, (2, 1, 0), [count, Group(5, 0)])
-call('nodes_six_fold_wraps_to_2', (2, 1, 0), [3074457345618258603, Group(7, 0)])
+call('nodes_six_fold_wraps_to_2', (2, 1, 0), [2**64 // ROW_WIDTH + 1, Group(7, 0)])
 
-NEXTS_FROM = {1024: 1025, 1025: 1026}
-for count, answer in ((1024, ACCEPTED), (1025, (2, 2, 0))):
-    entries = [Group(count, (NEXTS_FROM[count], 1))]
-    call('sequentials_%d' % count, answer, sections(sequential_table(count), entries))
-call('sequentials_1024_the_last_again', (7, 2, 1023),
-     sections(sequential_table(1024), [Group(1023, (1025, 1)), 2047]))
-call('sequentials_1024_words_missing', (1, 2, 0), [0, 1024])
-call('sequentials_1025_words_missing', (2, 2, 0), [0, 1025])
+for count, answer in ((E, ACCEPTED), (E + 1, (2, 2, 0))):
+    call('sequentials_%d' % count, answer, sections(sequential_table(count), [Group(count, (count + 1, 1))]))
+call('sequentials_%d_the_last_again' % E, (7, 2, E - 1),
+     sections(sequential_table(E), [Group(E - 1, (E + 1, 1)), 2 * E - 1]))
+call('sequentials_%d_words_missing' % E, (1, 2, 0), [0, E])
+call('sequentials_%d_words_missing' % (E + 1), (2, 2, 0), [0, E + 1])
 call('sequentials_most', (2, 2, 0), [0, MOST, Group(4, 0)])
 
 ONE_BAD = [node(CONST, BIT, 1), node(BAD, BIT, 0)]
-for count, first, second in ((1024, ACCEPTED, ACCEPTED), (1025, (2, 3, 0), (2, 4, 0))):
+for count, first, second in ((E, ACCEPTED, ACCEPTED), (E + 1, (2, 3, 0), (2, 4, 0))):
     call('initial_bads_%d' % count, first, sections(ONE_BAD, bads=[Group(count, 1)]))
     call('sequential_bads_%d' % count, second, sections(ONE_BAD, later=[Group(count, 1)]))
-call('initial_bads_1024_last_no_bad', (6, 3, 1023), sections(ONE_BAD, bads=[Group(1023, 1), 0]))
-call('sequential_bads_1024_last_no_bad', (6, 4, 1023), sections(ONE_BAD, later=[Group(1023, 1), 0]))
-call('bads_1024_in_both', ACCEPTED, sections(ONE_BAD, bads=[Group(1024, 1)], later=[Group(1024, 1)]))
-call('initial_bads_1024_words_missing', (1, 3, 0), [0, 0, 1024])
-call('initial_bads_1025_words_missing', (2, 3, 0), [0, 0, 1025])
+call('initial_bads_%d_last_no_bad' % E, (6, 3, E - 1), sections(ONE_BAD, bads=[Group(E - 1, 1), 0]))
+call('sequential_bads_%d_last_no_bad' % E, (6, 4, E - 1), sections(ONE_BAD, later=[Group(E - 1, 1), 0]))
+call('bads_%d_in_both' % E, ACCEPTED, sections(ONE_BAD, bads=[Group(E, 1)], later=[Group(E, 1)]))
+call('initial_bads_%d_words_missing' % E, (1, 3, 0), [0, 0, E])
+call('initial_bads_%d_words_missing' % (E + 1), (2, 3, 0), [0, 0, E + 1])
 call('initial_bads_most', (2, 3, 0), [0, 0, MOST, Group(3, 0)])
-call('sequential_bads_1024_words_missing', (1, 4, 0), [0, 0, 0, 1024])
-call('sequential_bads_1025_words_missing', (2, 4, 0), [0, 0, 0, 1025])
+call('sequential_bads_%d_words_missing' % E, (1, 4, 0), [0, 0, 0, E])
+call('sequential_bads_%d_words_missing' % (E + 1), (2, 4, 0), [0, 0, 0, E + 1])
 call('sequential_bads_most', (2, 4, 0), [0, 0, 0, MOST, Group(2, 0)])
 
-call('inputs_4096', ACCEPTED, sections(inputs=[Group(4096, 7)]))
-call('inputs_4097', (2, 5, 0), sections(inputs=[Group(4097, 7)]))
-call('inputs_4096_words_missing', (1, 5, 0), [Group(4, 0), 4096])
-call('inputs_4097_words_missing', (2, 5, 0), [Group(4, 0), 4097])
+call('inputs_%d' % I, ACCEPTED, sections(inputs=[Group(I, 7)]))
+call('inputs_%d' % (I + 1), (2, 5, 0), sections(inputs=[Group(I + 1, 7)]))
+call('inputs_%d_words_missing' % I, (1, 5, 0), [Group(4, 0), I])
+call('inputs_%d_words_missing' % (I + 1), (2, 5, 0), [Group(4, 0), I + 1])
 call('inputs_most', (2, 5, 0), [Group(4, 0), MOST, 0])
-call('replies_16384', ACCEPTED, sections(replies=[Group(16384, 1)]))
-call('replies_16385', (2, 6, 0), sections(replies=[Group(16385, 1)]))
-call('replies_16384_words_missing', (1, 6, 0), [Group(5, 0), 16384])
-call('replies_16385_words_missing', (2, 6, 0), [Group(5, 0), 16385])
+call('replies_%d' % R, ACCEPTED, sections(replies=[Group(R, 1)]))
+call('replies_%d' % (R + 1), (2, 6, 0), sections(replies=[Group(R + 1, 1)]))
+call('replies_%d_words_missing' % R, (1, 6, 0), [Group(5, 0), R])
+call('replies_%d_words_missing' % (R + 1), (2, 6, 0), [Group(5, 0), R + 1])
 call('replies_most', (2, 6, 0), [Group(5, 0), MOST])
 
 EMPTY = sections()
-LETTERS = [97] * 64
-call('names_4096', ACCEPTED, EMPTY, [0, 16, Group(4096, 0)])
-call('names_4097', (2, 7, 0), EMPTY, [1, 16, Group(4097, 0)])
-call('names_4096_of_64_bytes', ACCEPTED, EMPTY, [0, 16, Group(4096, 64, *LETTERS)])
-call('names_4096_last_of_65_bytes', (2, 7, 0), EMPTY, [0, 16, Group(4095, 0), 65, Group(65, 97)])
-call('names_4096_last_missing', (1, 7, 0), EMPTY, [0, 16, Group(4095, 0)])
-call('names_4096_bytes_missing', (1, 7, 0), EMPTY, [0, 16])
-call('names_4097_bytes_missing', (2, 7, 0), EMPTY, [1, 16])
+K, L = MOST_NAMES, LONGEST_NAME
+LETTERS = [97] * L
+ALL_NAMES, ONE_MORE = names_count(K), names_count(K + 1)
+call('names_%d' % K, ACCEPTED, EMPTY, [*ALL_NAMES, Group(K, 0)])
+call('names_%d' % (K + 1), (2, 7, 0), EMPTY, [*ONE_MORE, Group(K + 1, 0)])
+call('names_%d_of_%d_bytes' % (K, L), ACCEPTED, EMPTY, [*ALL_NAMES, Group(K, L, *LETTERS)])
+call('names_%d_last_of_%d_bytes' % (K, L + 1), (2, 7, 0), EMPTY, [*ALL_NAMES, Group(K - 1, 0), L + 1, Group(L + 1, 97)])
+call('names_%d_last_missing' % K, (1, 7, 0), EMPTY, [*ALL_NAMES, Group(K - 1, 0)])
+call('names_%d_bytes_missing' % K, (1, 7, 0), EMPTY, ALL_NAMES)
+call('names_%d_bytes_missing' % (K + 1), (2, 7, 0), EMPTY, ONE_MORE)
 call('names_65535', (2, 7, 0), EMPTY, [255, 255])
 call('names_256_low_byte_first', ACCEPTED, EMPTY, [0, 1, Group(256, 0)])
 call('names_256_one_missing', (1, 7, 0), EMPTY, [0, 1, Group(255, 0)])
 
-FULL_NODES = sequential_table(1024) + [
+# E states with a Next each, a Const and a Bad on it, and as many named States and Inputs as there is place for.
+FULL_NODES = sequential_table(E) + [
     node(CONST, BIT, 1),
-    node(STATE, WORD, 0, 0, 0, (1, 1), times=1023),
-    node(INPUT, MEMORY, 0, 0, 0, (2049, 1), times=1022),
-    node(BAD, BIT, 2049, name=4096),
+    node(STATE, WORD, 0, 0, 0, (1, 1), times=E - 1),
+    node(INPUT, MEMORY, 0, 0, 0, (2 * E + 1, 1), times=N - 3 * E - 2),
+    node(BAD, BIT, 2 * E + 1, name=K),
 ]
-FULL = sections(FULL_NODES, [Group(1024, (1025, 1))], [Group(1024, 4095)], [Group(1024, 4095)],
-                [Group(4096, MOST)], [Group(16384, MOST)])
-FULL_NAMES = [0, 16, Group(4096, 64, *LETTERS)]
+FULL = sections(FULL_NODES, [Group(E, (E + 1, 1))], [Group(E, N - 1)], [Group(E, N - 1)], [Group(I, MOST)], [Group(R, MOST)])
+FULL_NAMES = [*ALL_NAMES, Group(K, L, *LETTERS)]
 call('every_count_at_its_limit', ACCEPTED, FULL, FULL_NAMES)
 call('every_count_at_its_limit_result_one_short', (12, 8, 0), FULL, FULL_NAMES, result=ROOM - 1)
 call('every_count_at_its_limit_scratch_one_short', (12, 8, 1), FULL, FULL_NAMES, scratch=ROOM - 1)
@@ -176,18 +180,18 @@ call('every_count_at_its_limit_scratch_one_short', (12, 8, 1), FULL, FULL_NAMES,
 
 call('name_0_bytes', ACCEPTED, EMPTY, [1, 0, 0])
 call('name_1_byte', ACCEPTED, EMPTY, [1, 0, 1, 97])
-call('name_64_bytes', ACCEPTED, EMPTY, [1, 0, 64, Group(64, 97)])
-call('name_65_bytes', (2, 7, 0), EMPTY, [1, 0, 65, Group(65, 97)])
+call('name_%d_bytes' % L, ACCEPTED, EMPTY, [1, 0, L, Group(L, 97)])
+call('name_%d_bytes' % (L + 1), (2, 7, 0), EMPTY, [1, 0, L + 1, Group(L + 1, 97)])
 call('name_255_bytes', (2, 7, 0), EMPTY, [1, 0, 255, Group(255, 97)])
-call('name_64_bytes_at_the_end', (1, 7, 0), EMPTY, [1, 0, 64])
-call('name_65_bytes_at_the_end', (2, 7, 0), EMPTY, [1, 0, 65])
-call('name_64_bytes_one_missing', (1, 7, 0), EMPTY, [1, 0, 64, Group(63, 97)])
-call('name_65_bytes_one_missing', (2, 7, 0), EMPTY, [1, 0, 65, Group(64, 97)])
-call('second_name_64_bytes', ACCEPTED, EMPTY, [2, 0, 1, 97, 64, Group(64, 98)])
-call('second_name_65_bytes', (2, 7, 0), EMPTY, [2, 0, 1, 97, 65, Group(65, 98)])
-call('second_name_64_bytes_at_the_end', (1, 7, 0), EMPTY, [2, 0, 1, 97, 64])
-call('second_name_65_bytes_at_the_end', (2, 7, 0), EMPTY, [2, 0, 1, 97, 65])
-call('name_65_bytes_and_one_left_over', (2, 7, 0), EMPTY, [1, 0, 65, Group(66, 97)])
+call('name_%d_bytes_at_the_end' % L, (1, 7, 0), EMPTY, [1, 0, L])
+call('name_%d_bytes_at_the_end' % (L + 1), (2, 7, 0), EMPTY, [1, 0, L + 1])
+call('name_%d_bytes_one_missing' % L, (1, 7, 0), EMPTY, [1, 0, L, Group(L - 1, 97)])
+call('name_%d_bytes_one_missing' % (L + 1), (2, 7, 0), EMPTY, [1, 0, L + 1, Group(L, 97)])
+call('second_name_%d_bytes' % L, ACCEPTED, EMPTY, [2, 0, 1, 97, L, Group(L, 98)])
+call('second_name_%d_bytes' % (L + 1), (2, 7, 0), EMPTY, [2, 0, 1, 97, L + 1, Group(L + 1, 98)])
+call('second_name_%d_bytes_at_the_end' % L, (1, 7, 0), EMPTY, [2, 0, 1, 97, L])
+call('second_name_%d_bytes_at_the_end' % (L + 1), (2, 7, 0), EMPTY, [2, 0, 1, 97, L + 1])
+call('name_%d_bytes_and_one_left_over' % (L + 1), (2, 7, 0), EMPTY, [1, 0, L + 1, Group(L + 2, 97)])
 call('name_bytes_may_be_any', ACCEPTED, EMPTY, [1, 0, 4, 0, 10, 65, 255])
 call('two_names_cut_at_0', (1, 7, 0), EMPTY, [])
 call('two_names_cut_at_1', (1, 7, 0), EMPTY, [2])
@@ -212,15 +216,13 @@ SMALL = [
     node(BAD, BIT, 3),
 ]
 SMALL_WORDS = flat(sections(SMALL, [2], [4], [4], [5], [0]))
-CUTS = {
-    0: (1, 1, 0), 1: (1, 1, 0), 2: (1, 1, 0), 6: (1, 1, 0), 7: (1, 1, 0), 25: (1, 1, 0), 30: (1, 1, 0),
-    31: (1, 2, 0), 32: (1, 2, 0), 33: (1, 3, 0), 34: (1, 3, 0), 35: (1, 4, 0), 36: (1, 4, 0),
-    37: (1, 5, 0), 38: (1, 5, 0), 39: (1, 6, 0), 40: (1, 6, 0),
-}
-for cut, answer in CUTS.items():
-    call('five_nodes_cut_at_%d' % cut, answer, SMALL_WORDS[:cut])
-for cut in range(1, 6):
-    call('empty_cut_at_%d' % cut, (1, cut + 1, 0), [0] * cut)
+ROWS_END = 1 + ROW_WIDTH * len(SMALL)
+CUTS = {at: (1, 1, 0) for at in (0, 1, 2, ROW_WIDTH, ROW_WIDTH + 1, ROWS_END - ROW_WIDTH, ROWS_END - 1)}
+CUTS.update({ROWS_END + k: (1, 2 + k // 2, 0) for k in range(10)})  # a count and one entry in each section
+for at, answer in CUTS.items():
+    call('five_nodes_cut_at_%d' % at, answer, SMALL_WORDS[:at])
+for at in range(1, 6):
+    call('empty_cut_at_%d' % at, (1, at + 1, 0), [0] * at)
 call('cut_at_the_last_sequential', (1, 2, 0), [0, 2, 7])
 call('cut_at_the_last_initial_bad', (1, 3, 0), [0, 0, 2, 7])
 call('cut_at_the_last_sequential_bad', (1, 4, 0), [0, 0, 0, 2, 7])
@@ -230,85 +232,91 @@ call('one_word_left_over', (1, 6, 0), [Group(7, 0)])
 call('one_word_left_over_after_nodes', (1, 6, 0), SMALL_WORDS + [0])
 call('one_word_left_over_is_large', (1, 6, 0), [Group(6, 0), MOST])
 call('left_over_word_before_short_names', (1, 6, 0), [Group(7, 0)], [])
-call('left_over_word_before_4097_names', (1, 6, 0), [Group(7, 0)], [1, 16])
-call('left_over_word_before_name_of_65', (1, 6, 0), [Group(7, 0)], [1, 0, 65])
+call('left_over_word_before_%d_names' % (K + 1), (1, 6, 0), [Group(7, 0)], ONE_MORE)
+call('left_over_word_before_name_of_%d' % (L + 1), (1, 6, 0), [Group(7, 0)], [1, 0, L + 1])
 call('left_over_word_before_left_over_byte', (1, 6, 0), [Group(7, 0)], [0, 0, 0])
 call('left_over_word_before_room', (1, 6, 0), [Group(7, 0)], result=0, scratch=0)
-call('short_section_1_before_names', (1, 1, 0), [], [1, 16])
-call('short_section_6_before_names', (1, 6, 0), [Group(5, 0)], [1, 16])
-call('over_in_section_2_before_section_3', (2, 2, 0), [0, 1025, 1025])
-call('over_in_section_2_before_names', (2, 2, 0), [0, 1025], [])
-call('short_section_2_before_over_in_names', (1, 2, 0), [0, 3], [1, 16])
+call('short_section_1_before_names', (1, 1, 0), [], ONE_MORE)
+call('short_section_6_before_names', (1, 6, 0), [Group(5, 0)], ONE_MORE)
+call('over_in_section_2_before_section_3', (2, 2, 0), [0, E + 1, E + 1])
+call('over_in_section_2_before_names', (2, 2, 0), [0, E + 1], [])
+call('short_section_2_before_over_in_names', (1, 2, 0), [0, 3], ONE_MORE)
 call('left_over_byte_before_room', (1, 7, 0), EMPTY, [0, 0, 0], result=0, scratch=0)
-call('over_names_before_room', (2, 7, 0), EMPTY, [1, 16], result=0, scratch=0)
-call('short_names_before_unknown_kind', (1, 7, 0), sections([node(23, WORD)]), [])
-call('room_before_unknown_kind', (12, 8, 0), sections([node(23, WORD)]), result=43)
-call('scratch_before_unknown_kind', (12, 8, 1), sections([node(23, WORD)]), scratch=43)
-call('room_before_lists', (12, 8, 0), sections(bads=[9]), result=26)
+call('over_names_before_room', (2, 7, 0), EMPTY, ONE_MORE, result=0, scratch=0)
+UNKNOWN_KIND = sections([node(BAD + 1, WORD)])
+call('short_names_before_unknown_kind', (1, 7, 0), UNKNOWN_KIND, [])
+call('room_before_unknown_kind', (12, 8, 0), UNKNOWN_KIND, result=room(1) - 1)
+call('scratch_before_unknown_kind', (12, 8, 1), UNKNOWN_KIND, scratch=room(1) - 1)
+call('room_before_lists', (12, 8, 0), sections(bads=[9]), result=room(bads=1) - 1)
 
 # --- room
 
-call('empty_room_22', ACCEPTED, EMPTY, result=22, scratch=22)
-call('empty_result_21', (12, 8, 0), EMPTY, result=21, scratch=22)
-call('empty_scratch_21', (12, 8, 1), EMPTY, result=22, scratch=21)
-call('empty_room_21', (12, 8, 0), EMPTY, result=21, scratch=21)
+
+def in_room(name, answer, words, result, scratch):
+    """A call with as much room as it needs and so much more, or less; its name has the smaller room of the two."""
+    result, scratch = need(flat(words)) + result, need(flat(words)) + scratch
+    call(name % min(result, scratch), answer, words, result=result, scratch=scratch)
+
+
+in_room('empty_room_%d', ACCEPTED, EMPTY, 0, 0)
+in_room('empty_result_%d', (12, 8, 0), EMPTY, -1, 0)
+in_room('empty_scratch_%d', (12, 8, 1), EMPTY, 0, -1)
+in_room('empty_room_%d', (12, 8, 0), EMPTY, -1, -1)
 call('empty_room_0', (12, 8, 0), EMPTY, result=0, scratch=0)
-call('empty_scratch_0', (12, 8, 1), EMPTY, result=22, scratch=0)
+call('empty_scratch_0', (12, 8, 1), EMPTY, result=LEAST, scratch=0)
 call('empty_room_most', ACCEPTED, EMPTY, result=MOST, scratch=MOST)
-call('five_nodes_room_144', ACCEPTED, SMALL_WORDS, result=144, scratch=144)
-call('five_nodes_result_143', (12, 8, 0), SMALL_WORDS, result=143, scratch=144)
-call('five_nodes_scratch_143', (12, 8, 1), SMALL_WORDS, result=144, scratch=143)
-call('five_nodes_room_143', (12, 8, 0), SMALL_WORDS, result=143, scratch=143)
-call('one_node_room_44', ACCEPTED, sections(constants(1)), result=44, scratch=44)
-call('one_node_result_43', (12, 8, 0), sections(constants(1)), result=43, scratch=44)
-call('one_node_scratch_43', (12, 8, 1), sections(constants(1)), result=44, scratch=43)
-call('one_sequential_room_23', (6, 2, 0), sections(sequentials=[0]), result=23, scratch=23)
-call('one_sequential_result_22', (12, 8, 0), sections(sequentials=[0]), result=22, scratch=23)
-call('one_initial_bad_room_27', (6, 3, 0), sections(bads=[0]), result=27, scratch=27)
-call('one_initial_bad_result_26', (12, 8, 0), sections(bads=[0]), result=26, scratch=27)
-call('one_sequential_bad_room_27', (6, 4, 0), sections(later=[0]), result=27, scratch=27)
-call('one_sequential_bad_scratch_26', (12, 8, 1), sections(later=[0]), result=27, scratch=26)
-call('a_bad_twice_counts_twice_room_76', ACCEPTED, sections(ONE_BAD, bads=[1, 1]), result=76, scratch=76)
-call('a_bad_twice_counts_twice_result_75', (12, 8, 0), sections(ONE_BAD, bads=[1, 1]), result=75, scratch=76)
-call('one_input_room_23', ACCEPTED, sections(inputs=[9]), result=23, scratch=23)
-call('one_input_result_22', (12, 8, 0), sections(inputs=[9]), result=22, scratch=23)
-call('replies_need_no_room', ACCEPTED, sections(replies=[Group(100, 1)]), result=22, scratch=22)
-call('names_need_no_room', ACCEPTED, EMPTY, [100, 0, Group(100, 1, 97)], result=22, scratch=22)
-call('nodes_4096_room_90134', ACCEPTED, sections(constants(4096)), result=90134, scratch=90134)
-call('nodes_4096_result_90133', (12, 8, 0), sections(constants(4096)), result=90133, scratch=90134)
-call('need_4097_words', ACCEPTED, sections(constants(185), inputs=[Group(5, 1)]), result=4097, scratch=4097)
-call('need_4097_words_result_4096', (12, 8, 0), sections(constants(185), inputs=[Group(5, 1)]), result=4096,
-     scratch=4096)
+in_room('five_nodes_room_%d', ACCEPTED, SMALL_WORDS, 0, 0)
+in_room('five_nodes_result_%d', (12, 8, 0), SMALL_WORDS, -1, 0)
+in_room('five_nodes_scratch_%d', (12, 8, 1), SMALL_WORDS, 0, -1)
+in_room('five_nodes_room_%d', (12, 8, 0), SMALL_WORDS, -1, -1)
+in_room('one_node_room_%d', ACCEPTED, sections(constants(1)), 0, 0)
+in_room('one_node_result_%d', (12, 8, 0), sections(constants(1)), -1, 0)
+in_room('one_node_scratch_%d', (12, 8, 1), sections(constants(1)), 0, -1)
+in_room('one_sequential_room_%d', (6, 2, 0), sections(sequentials=[0]), 0, 0)
+in_room('one_sequential_result_%d', (12, 8, 0), sections(sequentials=[0]), -1, 0)
+in_room('one_initial_bad_room_%d', (6, 3, 0), sections(bads=[0]), 0, 0)
+in_room('one_initial_bad_result_%d', (12, 8, 0), sections(bads=[0]), -1, 0)
+in_room('one_sequential_bad_room_%d', (6, 4, 0), sections(later=[0]), 0, 0)
+in_room('one_sequential_bad_scratch_%d', (12, 8, 1), sections(later=[0]), 0, -1)
+in_room('a_bad_twice_counts_twice_room_%d', ACCEPTED, sections(ONE_BAD, bads=[1, 1]), 0, 0)
+in_room('a_bad_twice_counts_twice_result_%d', (12, 8, 0), sections(ONE_BAD, bads=[1, 1]), -1, 0)
+in_room('one_input_room_%d', ACCEPTED, sections(inputs=[9]), 0, 0)
+in_room('one_input_result_%d', (12, 8, 0), sections(inputs=[9]), -1, 0)
+call('replies_need_no_room', ACCEPTED, sections(replies=[Group(100, 1)]), result=LEAST, scratch=LEAST)
+call('names_need_no_room', ACCEPTED, EMPTY, [100, 0, Group(100, 1, 97)], result=LEAST, scratch=LEAST)
+in_room('nodes_%d_room_%%d' % N, ACCEPTED, sections(constants(N)), 0, 0)
+in_room('nodes_%d_result_%%d' % N, (12, 8, 0), sections(constants(N)), -1, 0)
+PAST_PROGRAM = sections(constants(PROGRAM_NODES), inputs=[Group(PROGRAM_ROOM + 1 - room(PROGRAM_NODES), 1)])
+in_room('need_%d_words', ACCEPTED, PAST_PROGRAM, 0, 0)
+in_room('need_%d_words_result_%%d' % (PROGRAM_ROOM + 1), (12, 8, 0), PAST_PROGRAM, -1, -1)
 
 # --- modes
 
-for mode in range(8):
+TOO_HIGH = HIGHEST_MODE + 1
+for mode in range(TOO_HIGH):
     call('mode_%d' % mode, ACCEPTED, SMALL_WORDS, mode=mode)
-for mode in (8, 15, 256, 2**32, 2**63, MOST):
+for mode in (TOO_HIGH, 2 * TOO_HIGH - 1, 256, 2**32, 2**63, MOST):
     call('mode_%d' % mode, (1, 0, 0), SMALL_WORDS, mode=mode)
-call('mode_7_no_words', (1, 1, 0), [], mode=7)
-call('mode_8_no_words', (1, 0, 0), [], mode=8)
-call('mode_8_before_4097_nodes', (1, 0, 0), [4097], mode=8)
-call('mode_8_before_left_over_word', (1, 0, 0), [Group(7, 0)], mode=8)
-call('mode_8_before_names', (1, 0, 0), EMPTY, [], mode=8)
-call('mode_8_before_room', (1, 0, 0), EMPTY, mode=8, result=0, scratch=0)
+call('mode_%d_no_words' % HIGHEST_MODE, (1, 1, 0), [], mode=HIGHEST_MODE)
+call('mode_%d_no_words' % TOO_HIGH, (1, 0, 0), [], mode=TOO_HIGH)
+call('mode_%d_before_%d_nodes' % (TOO_HIGH, N + 1), (1, 0, 0), [N + 1], mode=TOO_HIGH)
+call('mode_%d_before_left_over_word' % TOO_HIGH, (1, 0, 0), [Group(7, 0)], mode=TOO_HIGH)
+call('mode_%d_before_names' % TOO_HIGH, (1, 0, 0), EMPTY, [], mode=TOO_HIGH)
+call('mode_%d_before_room' % TOO_HIGH, (1, 0, 0), EMPTY, mode=TOO_HIGH, result=0, scratch=0)
 
 # --- numbers and the widths of their sorts
 
-LAST = {
-    1: 1, 11: 255, 12: 65535, 13: 16777215, 14: 4294967295, 15: 1099511627775, 16: 281474976710655,
-    17: 72057594037927935,
-}
-for sort, last in LAST.items():
+for sort in (BIT, *BYTES):
+    last = LARGEST[sort]
     call('const_sort_%d_is_0' % sort, ACCEPTED, sections([node(CONST, sort, 0)]))
     call('const_sort_%d_is_%d' % (sort, last), ACCEPTED, sections([node(CONST, sort, last)]))
     call('const_sort_%d_is_%d' % (sort, last + 1), (5, 1, 0), sections([node(CONST, sort, last + 1)]))
     call('const_sort_%d_is_most' % sort, (5, 1, 0), sections([node(CONST, sort, MOST)]))
-call('const_sort_2_is_0', ACCEPTED, sections([node(CONST, WORD, 0)]))
-call('const_sort_2_is_most', ACCEPTED, sections([node(CONST, WORD, MOST)]))
-call('const_sort_3_is_0', (5, 1, 0), sections([node(CONST, MEMORY, 0)]))
-call('const_sort_3_is_1', (5, 1, 0), sections([node(CONST, MEMORY, 1)]))
-call('const_sort_3_is_most', (5, 1, 0), sections([node(CONST, MEMORY, MOST)]))
+call('const_sort_%d_is_0' % WORD, ACCEPTED, sections([node(CONST, WORD, 0)]))
+call('const_sort_%d_is_most' % WORD, ACCEPTED, sections([node(CONST, WORD, MOST)]))
+call('const_sort_%d_is_0' % MEMORY, (5, 1, 0), sections([node(CONST, MEMORY, 0)]))
+call('const_sort_%d_is_1' % MEMORY, (5, 1, 0), sections([node(CONST, MEMORY, 1)]))
+call('const_sort_%d_is_most' % MEMORY, (5, 1, 0), sections([node(CONST, MEMORY, MOST)]))
 
 # --- one node tried, number 11, after eleven that are in order; node 12 is in order too
 
@@ -361,16 +369,17 @@ for kind, code in KINDS.items():
     tried('%s_in_order' % kind, ACCEPTED, code, *IN_ORDER[kind])
 
 # 3: kinds and sorts
-for kind in (0, 23, 257, 2**32 + 1, 2**32 + 21, MOST):
+for kind in (0, BAD + 1, 2**8 + CONST, 2**32 + CONST, 2**32 + INPUT, MOST):
     tried('kind_%d' % kind, THREE, kind, WORD)
-for sort in (0, 4, 5, 9, 10, 18, 2**32 + 2, 2**8 + 2, MOST):
+BELOW, ABOVE = BYTE - 1, BYTES[-1] + 1
+for sort in (0, MEMORY + 1, MEMORY + 2, BELOW - 1, BELOW, ABOVE, 2**32 + WORD, 2**8 + WORD, MOST):
     tried('sort_%d' % sort, THREE, CONST, sort, 0)
     tried('ext_from_%d' % sort, THREE, EXT, WORD, word, sort)
-for sort in (0, 10, 18, 2**32 + 2):
+for sort in (0, BELOW, ABOVE, 2**32 + WORD):
     tried('input_sort_%d' % sort, THREE, INPUT, sort, k=1)
     tried('add_sort_%d' % sort, THREE, ADD, sort)
     tried('state_sort_%d' % sort, THREE, STATE, sort)
-for sort in (1, 3, 11, 12, 13, 14, 15, 16, 17):
+for sort in (BIT, MEMORY, *BYTES):
     tried('input_sort_%d' % sort, ACCEPTED, INPUT, sort, k=1)
     tried('state_sort_%d_no_init' % sort, ACCEPTED, STATE, sort)
 
@@ -407,8 +416,9 @@ tried('state_name_most', THREE, STATE, WORD, k=MOST)
 call('input_name_1_of_no_names', (3, 1, 0), sections([node(INPUT, WORD, name=1)]))
 call('state_name_1_of_no_names', (3, 1, 0), sections([node(STATE, WORD, name=1)]))
 call('input_empty_name', ACCEPTED, sections([node(INPUT, WORD, name=1)]), [1, 0, 0])
-call('input_name_4096', ACCEPTED, sections([node(INPUT, WORD, name=4096)]), [0, 16, Group(4096, 0)])
-call('input_name_4096_of_4095', (3, 1, 0), sections([node(INPUT, WORD, name=4096)]), [255, 15, Group(4095, 0)])
+call('input_name_%d' % K, ACCEPTED, sections([node(INPUT, WORD, name=K)]), [*ALL_NAMES, Group(K, 0)])
+call('input_name_%d_of_%d' % (K, K - 1), (3, 1, 0), sections([node(INPUT, WORD, name=K)]),
+     [*names_count(K - 1), Group(K - 1, 0)])
 call('two_nodes_one_name', ACCEPTED, sections([node(INPUT, WORD, name=1, times=2)]), [1, 0, 1, 97])
 call('equal_and_unused_names', ACCEPTED, sections([node(INPUT, WORD, name=2)]), [3, 0, Group(3, 1, 97)])
 
@@ -551,7 +561,7 @@ for sort in (WORD, MEMORY, BYTE):
     tried('bad_of_sort_%d' % sort, FIVE, BAD, sort, bit)
 for what, operand in (('word', word), ('byte', byte), ('memory', memory), ('next', next_bit), ('bad', bad)):
     tried('bad_condition_is_%s' % what, FIVE, BAD, BIT, operand)
-tried('bad_of_sort_2_over_word', FIVE, BAD, WORD, word)
+tried('bad_of_sort_%d_over_word' % WORD, FIVE, BAD, WORD, word)
 tried('bad_condition_is_state', ACCEPTED, BAD, BIT, state_bit)
 
 # --- the order at one node, and over nodes
@@ -562,12 +572,12 @@ call('sorts_of_node_0_before_operand_of_node_1', (5, 1, 0), sections([node(CONST
 call('kind_of_node_0_before_kind_of_node_1', (3, 1, 0), sections([node(0, WORD), node(0, WORD)]))
 call('kind_of_node_1_before_sorts_of_node_2', (3, 1, 1),
      sections([node(CONST, WORD), node(0, WORD), node(CONST, MEMORY)]))
-tried('sort_code_before_operand', THREE, ADD, 18, TRIED, word)
+tried('sort_code_before_operand', THREE, ADD, ABOVE, TRIED, word)
 tried('unused_word_before_operand', THREE, ADD, WORD, TRIED, word, 1)
 tried('unused_word_before_sorts', THREE, ADD, BIT, word, word, 1)
 tried('name_before_operand', THREE, ADD, WORD, TRIED, word, 0, 1)
 tried('name_before_sorts', THREE, ADD, BIT, word, word, 0, 1)
-tried('ext_from_before_operand', THREE, EXT, WORD, TRIED, 4)
+tried('ext_from_before_operand', THREE, EXT, WORD, TRIED, MEMORY + 1)
 tried('all_three_at_one_node', THREE, ADD, BIT, TRIED, bit, 1)
 tried('operand_before_own_sort', FOUR, ADD, BIT, TRIED, word)
 tried('operand_before_sort_of_the_other', FOUR, ADD, WORD, bit, TRIED)
@@ -621,7 +631,7 @@ listed('section_2_before_section_4', (6, 2, 0), [word], [], [word])
 listed('section_3_before_section_4', (6, 3, 0), [], [word], [word])
 listed('second_of_section_2_before_first_of_section_3', (6, 2, 1), [next_word, word], [word])
 listed('next_again_before_section_3', (7, 2, 1), [next_word, next_word], [word])
-for mode in (1, 2, 4, 5, 6, 7):
+for mode in (1, 2, 4, 5, 6, HIGHEST_MODE):
     listed('mode_%d_wrong_entry_in_section_2' % mode, (6, 2, 0), [word], [], [], mode)
     listed('mode_%d_next_twice' % mode, (7, 2, 1), [next_word, next_word], [], [], mode)
     listed('mode_%d_wrong_entry_in_section_3' % mode, (6, 3, 0), [], [word], [], mode)
@@ -632,9 +642,9 @@ call('inputs_and_replies_are_not_judged', ACCEPTED, sections(SMALL, [2], [4], [4
 
 # --- the call of the worked example (docs/FORMAT.md)
 
-call('the_papers_example', ACCEPTED,
-     sections([node(STATE, WORD, name=1), node(CONST, WORD, 12), node(ULT, BIT, 0, 1), node(BAD, BIT, 2)],
-              bads=[3], inputs=[12]), [1, 0, 8, 104, 111, 108, 100, 45, 101, 110, 100])
+EXAMPLE = [node(STATE, WORD, name=1), node(CONST, WORD, 12), node(ULT, BIT, 0, 1), node(BAD, BIT, 2)]
+HOLD_END = names_of(list(b'hold-end'))
+call('the_papers_example', ACCEPTED, sections(EXAMPLE, bads=[3], inputs=[12]), HOLD_END)
 
 # --- labels: nodes 0 to 4 have the names 1, 2, 3, none and one past the last
 
@@ -649,35 +659,36 @@ label('label_empty_name', 1, LABELLED, THREE_NAMES, OTHER, [])
 label('label_last_name', 2, LABELLED, THREE_NAMES, OTHER, [100, 100, 100])
 label('label_name_0', 3, LABELLED, THREE_NAMES, OTHER, OTHER)
 label('label_name_past_the_last', 4, LABELLED, THREE_NAMES, OTHER, OTHER)
-for place in (5, 6, 4096, 2**32, 2**63, MOST):
+for place in (5, 6, N, 2**32, 2**63, MOST):
     label('label_of_node_%d' % place, place, LABELLED, THREE_NAMES, OTHER, OTHER)
 label('label_empty_substitute', 3, LABELLED, THREE_NAMES, [], [])
 label('label_name_2^32+1', 0, sections([node(STATE, WORD, name=2**32 + 1)]), THREE_NAMES, OTHER, OTHER)
 label('label_name_most', 0, sections([node(STATE, WORD, name=MOST)]), THREE_NAMES, OTHER, OTHER)
 label('label_in_no_nodes', 0, EMPTY, THREE_NAMES, OTHER, OTHER)
 label('label_section_1_has_no_count', 0, [], THREE_NAMES, OTHER, OTHER)
-label('label_section_1_one_word_short', 0, flat(LABELLED)[:30], THREE_NAMES, OTHER, OTHER)
-label('label_sections_2_to_6_missing', 0, flat(LABELLED)[:31], THREE_NAMES, OTHER, [97, 98])
-label('label_section_2_over_its_limit', 0, flat(LABELLED)[:31] + [1025], THREE_NAMES, OTHER, [97, 98])
+SECTION_1 = flat(LABELLED)[:1 + ROW_WIDTH * 5]
+label('label_section_1_one_word_short', 0, SECTION_1[:-1], THREE_NAMES, OTHER, OTHER)
+label('label_sections_2_to_6_missing', 0, SECTION_1, THREE_NAMES, OTHER, [97, 98])
+label('label_section_2_over_its_limit', 0, SECTION_1 + [E + 1], THREE_NAMES, OTHER, [97, 98])
 label('label_words_left_over', 0, LABELLED + [7], THREE_NAMES, OTHER, [97, 98])
-label('label_nodes_4096', 4095, sections([node(STATE, WORD, name=1, times=4095), node(STATE, WORD, name=3)]),
+label('label_nodes_%d' % N, N - 1, sections([node(STATE, WORD, name=1, times=N - 1), node(STATE, WORD, name=3)]),
       THREE_NAMES, OTHER, [100, 100, 100])
-label('label_nodes_4097', 0, sections([node(STATE, WORD, name=1, times=4097)]), THREE_NAMES, OTHER, OTHER)
+label('label_nodes_%d' % (N + 1), 0, sections([node(STATE, WORD, name=1, times=N + 1)]), THREE_NAMES, OTHER, OTHER)
 label('label_nodes_2^63', 0, [2**63] + LABELLED[1:], THREE_NAMES, OTHER, OTHER)
 label('label_nodes_most', 0, [MOST] + LABELLED[1:], THREE_NAMES, OTHER, OTHER)
-for cut in range(9):
-    label('label_names_cut_at_%d' % cut, 0, LABELLED, THREE_NAMES[:cut], OTHER, OTHER)
+for at in range(9):
+    label('label_names_cut_at_%d' % at, 0, LABELLED, THREE_NAMES[:at], OTHER, OTHER)
 label('label_one_byte_left_over', 0, LABELLED, THREE_NAMES + [0], OTHER, OTHER)
-label('label_names_4097', 0, LABELLED, [1, 16, Group(4097, 1, 97)], OTHER, OTHER)
-label('label_name_4096', 0, sections([node(STATE, WORD, name=4096)]), [0, 16, Group(4095, 1, 97), 2, 98, 99], OTHER,
+label('label_names_%d' % (K + 1), 0, LABELLED, [*ONE_MORE, Group(K + 1, 1, 97)], OTHER, OTHER)
+label('label_name_%d' % K, 0, sections([node(STATE, WORD, name=K)]), [*ALL_NAMES, Group(K - 1, 1, 97), 2, 98, 99], OTHER,
       [98, 99])
-label('label_name_64_bytes', 1, LABELLED, [2, 0, 1, 97, 64, Group(64, 98)], OTHER, [Group(64, 98)])
-label('label_its_name_65_bytes', 1, LABELLED, [2, 0, 1, 97, 65, Group(65, 98)], OTHER, OTHER)
-label('label_another_name_65_bytes', 0, LABELLED, [2, 0, 1, 97, 65, Group(65, 98)], OTHER, OTHER)
-label('label_of_a_node_with_other_faults', 0, sections([node(23, 18, MOST, MOST, MOST, 1)]), THREE_NAMES, OTHER,
+label('label_name_%d_bytes' % L, 1, LABELLED, [2, 0, 1, 97, L, Group(L, 98)], OTHER, [Group(L, 98)])
+label('label_its_name_%d_bytes' % (L + 1), 1, LABELLED, [2, 0, 1, 97, L + 1, Group(L + 1, 98)], OTHER, OTHER)
+label('label_another_name_%d_bytes' % (L + 1), 0, LABELLED, [2, 0, 1, 97, L + 1, Group(L + 1, 98)], OTHER, OTHER)
+label('label_of_a_node_with_other_faults', 0, sections([node(BAD + 1, ABOVE, MOST, MOST, MOST, 1)]), THREE_NAMES, OTHER,
       [97, 98])
 label('label_of_a_const_with_a_name', 0, sections([node(CONST, WORD, 5, name=1)]), THREE_NAMES, OTHER, [97, 98])
-label('label_name_after_a_name_of_64', 1, LABELLED, [2, 0, 64, Group(64, 98), 1, 99], OTHER, [99])
+label('label_name_after_a_name_of_%d' % L, 1, LABELLED, [2, 0, L, Group(L, 98), 1, 99], OTHER, [99])
 
 # --- wrong answers, each in one small way: who overlooks it counts too few
 
@@ -686,23 +697,23 @@ def wrong(cases, what, name, answer, plain=flat):
     """The case of that name once more, with an answer that it does not have."""
     case = next(case for case in cases if case[0] == name)
     assert plain(answer) != plain(case[-1]), name
-    return ('wrong_answer_' + what, *case[1:-1], answer)
+    return (WRONG + what, *case[1:-1], answer)
 
 
 wrongly_judged = [
-    wrong(judged, 'number_one_more', 'nodes_4096_last_unknown_kind', (4, 1, 4095)),
-    wrong(judged, 'number_one_less', 'nodes_4096_last_wrong_sort', (4, 1, 4095)),
+    wrong(judged, 'number_one_more', 'nodes_%d_last_unknown_kind' % N, (4, 1, N - 1)),
+    wrong(judged, 'number_one_less', 'nodes_%d_last_wrong_sort' % N, (4, 1, N - 1)),
     wrong(judged, 'section_one_more', 'section_3_before_section_4', (6, 4, 0)),
-    wrong(judged, 'section_one_less', 'sequential_bads_1024_last_no_bad', (6, 3, 1023)),
+    wrong(judged, 'section_one_less', 'sequential_bads_%d_last_no_bad' % E, (6, 3, E - 1)),
     wrong(judged, 'position_one_more', 'two_nexts_of_one_state', (7, 2, 2)),
-    wrong(judged, 'position_one_less', 'nodes_4096_last_on_itself', (4, 1, 4094)),
+    wrong(judged, 'position_one_less', 'nodes_%d_last_on_itself' % N, (4, 1, N - 2)),
     wrong(judged, 'position_2^32_more', 'third_sequential_is_const', (6, 2, 2**32 + 2)),
     wrong(judged, 'refused_as_accepted', 'one_word_left_over', ACCEPTED),
-    wrong(judged, 'refused_number_alone_as_accepted', 'mode_8', ACCEPTED),
-    wrong(judged, 'accepted_with_a_number', 'nodes_4096', (2, 0, 0)),
-    wrong(judged, 'accepted_with_a_section', 'mode_7', (0, 1, 0)),
+    wrong(judged, 'refused_number_alone_as_accepted', 'mode_%d' % TOO_HIGH, ACCEPTED),
+    wrong(judged, 'accepted_with_a_number', 'nodes_%d' % N, (2, 0, 0)),
+    wrong(judged, 'accepted_with_a_section', 'mode_%d' % HIGHEST_MODE, (0, 1, 0)),
     wrong(judged, 'accepted_with_a_position', 'one_next', (0, 0, 1)),
-    wrong(judged, 'accepted_as_refused', 'empty_room_22', (12, 8, 0)),
+    wrong(judged, 'accepted_as_refused', 'empty_room_%d' % LEAST, (12, 8, 0)),
 ]
 wrongly_labelled = [
     wrong(labelled, 'label_first_byte', 'label_last_name', [101, 100, 100]),
@@ -711,8 +722,8 @@ wrongly_labelled = [
     wrong(labelled, 'label_last_byte_256_more', 'label_first_name', [97, 98 + 256]),
     wrong(labelled, 'label_one_byte_missing', 'label_first_name', [97]),
     wrong(labelled, 'label_one_byte_more', 'label_first_name', [97, 98, 0]),
-    wrong(labelled, 'label_of_64_last_byte', 'label_name_64_bytes', [Group(63, 98), 99]),
-    wrong(labelled, 'label_all_bytes_missing', 'label_name_64_bytes', []),
+    wrong(labelled, 'label_of_%d_last_byte' % L, 'label_name_%d_bytes' % L, [Group(L - 1, 98), 99]),
+    wrong(labelled, 'label_all_bytes_missing', 'label_name_%d_bytes' % L, []),
     wrong(labelled, 'label_empty_as_one_byte', 'label_empty_name', [0]),
     wrong(labelled, 'label_as_the_substitute', 'label_first_name', OTHER),
     wrong(labelled, 'substitute_as_a_label', 'label_name_past_the_last', [97, 98]),
@@ -734,33 +745,17 @@ def in_text_form(mode, result, scratch, words, names, answer):
     if answer == (1, 6, 0) and words_left_over(words):
         return None
     short = answer[0] in (1, 2) and answer[1] < 7
-    if answer[0] == 12 or not short and need(words) > 4096:
+    if answer[0] == 12 or not short and need(words) > PROGRAM_ROOM:
         return None
     numbers = [mode] + words
     if not short:
         numbers += [names[0] + 256 * names[1]] + names[2:] if len(names) > 1 else []
-    return numbers if len(numbers) <= 4096 else None
-
-
-def counts(words):
-    """The counts of sections 1 to 6 and where they end, as far as they are there."""
-    found, at = [], 0
-    for width in (6, 1, 1, 1, 1, 1):
-        if at >= len(words):
-            break
-        found.append(words[at])
-        at += 1 + width * words[at]
-    return found, at
+    return numbers if len(numbers) <= MOST_NUMBERS else None
 
 
 def words_left_over(words):
-    found, end = counts(words)
-    return len(found) == 6 and end < len(words)
-
-
-def need(words):
-    n, s, b3, b4, i, _ = counts(words)[0]
-    return 22 * n + 5 * (b3 + b4) + s + i + 22
+    parts, end = cut(words, TABLE_WIDTHS)
+    return len(parts) == len(TABLE_WIDTHS) and end < len(words)
 
 
 def answers(program, tables):
@@ -786,20 +781,28 @@ def compare(program):
         if found != answer:
             differing += 1
             print('%s: here %s, there %s' % (name, answer, line))
+    return told(asked, differing)
+
+
+def told(asked, differing):
+    """Says how many differ, and gives the exit status."""
     print('%d calls compared, %d differ' % (len(asked), differing))
+    return 1 if differing else 0
 
 
-def main(lines, compare, usage):
+def main(lines, usage, **commands):
     everything = list(lines())
     names = [line.split()[0] for line in everything]
     assert len(set(names)) == len(names), sorted(n for n in names if names.count(n) > 1)
     if sys.argv[1:] == ['list']:
         print('\n'.join(everything))
-    elif len(sys.argv) == 3 and sys.argv[1] == 'compare':
-        compare(sys.argv[2])
+        counted = sum(name.startswith(WRONG) for name in names)
+        print('%d cases, %d wrong' % (len(names), counted), file=sys.stderr)
+    elif len(sys.argv) == 3 and sys.argv[1] in commands:
+        sys.exit(commands[sys.argv[1]](sys.argv[2]))
     else:
         sys.exit(usage)
 
 
 if __name__ == '__main__':
-    main(lines, compare, __doc__)
+    main(lines, __doc__, compare=compare)

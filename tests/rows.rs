@@ -1,17 +1,13 @@
 // Judges an accepted answer from its text and its sections alone, and folds nothing: every row passes the rules for nodes again, and every
 // replacement has its node's sort (docs/FORMAT.md, "Nodes", "Folding" and "Result").
 
+#[path = "../oracle/src/house.rs"]
+pub mod house;
+
+use self::house::*;
 use std::array::from_fn;
 
-const BIT: u64 = 1;
-const WORD: u64 = 2;
-const MEMORY: u64 = 3;
-
-const STATE: u64 = 19;
-const NEXT: u64 = 20;
-const BAD: u64 = 22;
-
-type Row = [u64; 6];
+pub type Row = [u64; ROW_WIDTH];
 
 struct Folded {
     given: Vec<Row>,
@@ -45,21 +41,11 @@ fn given_rows(text: &[u8]) -> Option<Vec<Row>> {
     let numbers: Option<Vec<u64>> = text.split_ascii_whitespace().map(|number| number.parse().ok()).collect();
     let numbers = numbers?;
     let count = *numbers.get(1)? as usize;
-    Some(entries(numbers.get(2..2 + 6 * count)?))
+    Some(entries(numbers.get(2..2 + ROW_WIDTH * count)?))
 }
 
 fn entries<const WIDTH: usize>(words: &[u64]) -> Vec<[u64; WIDTH]> {
     words.chunks(WIDTH).map(|entry| from_fn(|word| entry[word])).collect()
-}
-
-// The largest number of a sort; nothing for a memory and for what is no sort.
-fn most(sort: u64) -> Option<u64> {
-    match sort {
-        BIT => Some(1),
-        WORD => Some(u64::MAX),
-        11..=17 => Some((1 << (8 * (sort - 10))) - 1),
-        _ => None,
-    }
 }
 
 impl Folded {
@@ -70,7 +56,7 @@ impl Folded {
         }
         for (number, [sort, value]) in (self.rows.len() as u64..).zip(&self.constants).skip(2) {
             let stands = self.replaced.iter().any(|[_, replacement]| *replacement == number);
-            if !stands || most(*sort).map_or(true, |most| *value > most) {
+            if !stands || largest(*sort).map_or(true, |largest| *value > largest) {
                 return Err(format!("constant {number} is {value} of sort {sort}, in place of a node: {stands}"));
             }
         }
@@ -103,17 +89,17 @@ impl Folded {
     fn kept(&self, node: usize) -> bool {
         let (given, row) = (self.given[node], self.rows[node]);
         let (operands, used) = match row[0] {
-            1 => (2..2, 2..3),
-            21 => (2..2, 2..2),
-            13 => (2..3, 2..4),
-            18 | BAD => (2..3, 2..3),
-            3 | 14 => (2..5, 2..5),
+            CONST => (2..2, 2..3),
+            INPUT => (2..2, 2..2),
+            EXT => (2..3, 2..4),
+            NOT | BAD => (2..3, 2..3),
+            WRITE | ITE => (2..5, 2..5),
             STATE if given[3] == 0 => (2..2, 3..4),
             STATE => (2..3, 2..4),
             NEXT => (3..4, 2..4),
             _ => (2..4, 2..4),
         };
-        (0..6).all(|word| operands.contains(&word) || row[word] == given[word])
+        (0..ROW_WIDTH).all(|word| operands.contains(&word) || row[word] == given[word])
             && (2..5).all(|word| used.contains(&word) || row[word] == 0)
     }
 
@@ -124,18 +110,18 @@ impl Folded {
         let are = |named: &[u64], sorts: &[u64]| named.iter().zip(sorts).all(|(named, sort)| sort_of(*named) == Some(*sort));
         let is_state = |named: u64| self.rows.get(named as usize).map_or(false, |row| row[0] == STATE);
         match kind {
-            1 => most(sort).map_or(false, |most| a <= most),
-            2 => sort == WORD && are(&[a, b], &[MEMORY, WORD]),
-            3 => sort == MEMORY && are(&[a, b, c], &[MEMORY, WORD, WORD]),
-            4..=11 => sort == WORD && are(&[a, b], &[WORD, WORD]),
-            12 | 15 => sort == BIT && sort_of(a).and_then(most).is_some() && sort_of(a) == sort_of(b),
-            13 => sort == WORD && most(b).is_some() && are(&[a], &[b]),
-            14 => are(&[a, b, c], &[BIT, sort, sort]),
-            16 | 17 => most(sort).is_some() && are(&[a, b], &[sort, sort]),
-            18 => most(sort).is_some() && are(&[a], &[sort]),
+            CONST => largest(sort).map_or(false, |largest| a <= largest),
+            READ => sort == WORD && are(&[a, b], &[MEMORY, WORD]),
+            WRITE => sort == MEMORY && are(&[a, b, c], &[MEMORY, WORD, WORD]),
+            ADD..=SRL => sort == WORD && are(&[a, b], &[WORD, WORD]),
+            ULT | EQ => sort == BIT && sort_of(a).and_then(largest).is_some() && sort_of(a) == sort_of(b),
+            EXT => sort == WORD && largest(b).is_some() && are(&[a], &[b]),
+            ITE => are(&[a, b, c], &[BIT, sort, sort]),
+            AND | OR => largest(sort).is_some() && are(&[a, b], &[sort, sort]),
+            NOT => largest(sort).is_some() && are(&[a], &[sort]),
             STATE => b == 0 || are(&[a], &[sort]),
             NEXT => is_state(a) && are(&[a, b], &[sort, sort]),
-            21 => true,
+            INPUT => true,
             BAD => sort == BIT && are(&[a], &[BIT]),
             _ => false,
         }

@@ -4,6 +4,15 @@
 set -eu
 
 program=$(realpath "${1:-target/bin/table_limits}")
+header=$(realpath "$(dirname "$0")/../include/gemtweed.h")
+house() { sed -n "s/^#define GEMTWEED_$1 \([0-9]*\).*/\1/p" "$header"; } # one of the house's numbers
+most_nodes=$(house MOST_NODES)
+most_entries=$(house MOST_ENTRIES)
+most_names=$(house MOST_NAMES)
+least_room=$(house LEAST_ROOM)
+too_high=$(($(house HIGHEST_MODE) + 1))
+# more than any of these tables needs
+room=$((($(house NODE_ROOM) + 2 * $(house BAD_ROOM)) * most_nodes + least_room))
 folder=$(mktemp -d)
 trap 'rm -r "$folder"' EXIT
 cd "$folder"
@@ -39,26 +48,26 @@ heading() {
 }
 
 heading nodes
-for nodes in 512 1024 2048 4096; do
+for nodes in $((most_nodes / 8)) $((most_nodes / 4)) $((most_nodes / 2)) "$most_nodes"; do
     table="$nodes $head $((nodes / 8 - 1))($group) 0 0 0 0 0 | 1 0 1 109"
-    row $nodes "$(instructions "judged 0 105494 105494 | $table | 0 0 0")" "$(instructions "no_room 0 0 0 | $table | 12 8 0")"
+    row "$nodes" "$(instructions "judged 0 $room $room | $table | 0 0 0")" "$(instructions "no_room 0 0 0 | $table | 12 8 0")"
 done
 
 heading sequentials
-for entries in 128 256 512 1024; do
+for entries in $((most_entries / 8)) $((most_entries / 4)) $((most_entries / 2)) "$most_entries"; do
     table="$((2 * entries + 1)) (1 2 5 0 0 0) $entries(19 2 0 1 0 0) $entries(20 2 1+1 0 0 0) $entries $entries($((entries + 1))+1) 0 0 0 0"
     longer="$((2 * entries + 1)) (1 2 5 0 0 0) $entries(19 2 0 1 0 0) $entries(20 2 1+1 0 0 0) 0 0 0 $entries $entries($((entries + 1))+1) 0"
-    row $entries "$(instructions "judged 0 105494 105494 | $table | 0 0 | 0 0 0")" "$(instructions "inputs 0 105494 105494 | $longer | 0 0 | 0 0 0")"
+    row "$entries" "$(instructions "judged 0 $room $room | $table | 0 0 | 0 0 0")" "$(instructions "inputs 0 $room $room | $longer | 0 0 | 0 0 0")"
 done
 
 heading names
-for names in 512 1024 2048 4096; do
+for names in $((most_names / 8)) $((most_names / 4)) $((most_names / 2)) "$most_names"; do
     bytes="0 $((names / 256)) $names(8 97 97 97 97 97 97 97 97)"
-    row $names "$(instructions "judged 0 22 22 | 6(0) | $bytes | 0 0 0")" "$(instructions "mode 8 22 22 | 6(0) | $bytes | 1 0 0")"
+    row "$names" "$(instructions "judged 0 $least_room $least_room | 6(0) | $bytes | 0 0 0")" "$(instructions "mode $too_high $least_room $least_room | 6(0) | $bytes | 1 0 0")"
 done
 
 heading names-before-a-label
-for names in 512 1024 2048 4096; do
+for names in $((most_names / 8)) $((most_names / 4)) $((most_names / 2)) "$most_names"; do
     bytes="0 $((names / 256)) $names(8 97 97 97 97 97 97 97 97)"
-    row $names "$(instructions "label 0 | 1 19 2 0 0 0 $names | $bytes | 8(97) | 8(97)")" "$(instructions "no_name 0 | 1 19 2 0 0 0 0 | $bytes | 8(97) | 8(97)")"
+    row "$names" "$(instructions "label 0 | 1 19 2 0 0 0 $names | $bytes | 8(97) | 8(97)")" "$(instructions "no_name 0 | 1 19 2 0 0 0 0 | $bytes | 8(97) | 8(97)")"
 done

@@ -4,6 +4,8 @@
 #[path = "../../oracle/src/graph.rs"]
 #[allow(dead_code)]
 mod graph;
+#[path = "../../oracle/src/house.rs"]
+mod house;
 mod measure;
 mod shapes;
 #[path = "../../oracle/src/table.rs"]
@@ -13,7 +15,7 @@ mod table;
 use measure::{Lent, Times};
 use shapes::SHAPES;
 
-const SIZES: [u64; 4] = [64, 256, 1024, 4096];
+const SIZES: [u64; 4] = [64, 256, 1024, house::MOST_NODES];
 const STACK: usize = 512 << 20; // the Rust recurses twice a node
 
 fn main() {

@@ -1,6 +1,7 @@
 // One model folded again and again: the fastest run of the Rust, of the library, and of the floor.
 
 use crate::graph;
+use crate::house::RESULT_WIDTHS;
 use crate::table::Table;
 use reference::unicorn::optimize::fold_model;
 use reference::unicorn::smt_solver::{SMTSolution, SMTSolver};
@@ -90,9 +91,7 @@ impl Lent {
             names.push(name.len() as u8);
             names.extend(name.iter().map(|byte| *byte as u8));
         }
-        let bads = table.initial_bads.len() + table.sequential_bads.len();
-        let need =
-            22 * table.nodes.len() + 5 * bads + table.sequentials.len() + table.inputs.len() + 22;
+        let need = table.need();
         let copy = vec![0; words.len()];
         Lent { mode: table.mode, words, names, result: vec![0; need], scratch: vec![0; need], copy }
     }
@@ -130,7 +129,7 @@ impl Lent {
     // How many entries of the three lists are kept, inputs are left and questions were asked.
     fn kept(&self) -> [u64; 5] {
         let mut at = 0;
-        let counts = [6, 2, 2, 1, 1, 1, 1, 4].map(|width| {
+        let counts = RESULT_WIDTHS.map(|width| {
             let count = self.result[at];
             at += 1 + width * count as usize;
             count

@@ -1,6 +1,7 @@
 // The measured models: seven shapes, each of exactly the number of nodes asked for, a power of two from 64 on.
 
-use crate::table::*;
+use crate::house::*;
+use crate::table::{Row, Table};
 
 pub const SHAPES: [(&str, fn(u64) -> Table); 7] = [
     ("deep chain", deep_chain),

@@ -3,11 +3,10 @@
 
 use crate::departures::depart;
 use crate::fold::{self, Sections};
+use crate::house::RESULT_WIDTHS;
 use crate::table::{Refusal, Table};
 
 pub type Answer = Result<Sections, Refusal>;
-
-const WIDTHS: [usize; 9] = [6, 2, 2, 1, 1, 1, 1, 4, 1];
 
 pub fn answer(text: &[u8]) -> Answer {
     judged(text).0
@@ -29,7 +28,7 @@ pub fn judged(text: &[u8]) -> (Answer, Vec<&'static str>) {
 pub fn lines(answer: &Answer) -> Vec<String> {
     match answer {
         Ok(sections) => {
-            let sections = sections.iter().zip(WIDTHS);
+            let sections = sections.iter().zip(RESULT_WIDTHS);
             let printed = sections.map(|(section, width)| line(section, width));
             std::iter::once("accepted".to_string()).chain(printed).collect()
         }

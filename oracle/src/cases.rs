@@ -1,13 +1,15 @@
 // Random tables of every kind, sort and mode, mostly accepted.
 
+use crate::departures::HIGHEST_MODE_OF_THE_RUST;
+use crate::house::*;
 use crate::random::Random;
-use crate::table::*;
+use crate::table::{Row, Table};
 
 const DUMPS: [&[u8]; 2] = [b"memory-dump", b"memory-dump-2"];
 const NAMES: [&[u8]; 6] = [b"memory-dum", b"Memory-dump", b"hold-end", b"a", b"", b"\xc3\xff"];
 
 pub fn random(random: &mut Random, most_nodes: u64) -> Table {
-    let narrow = 11 + random.below(7);
+    let narrow = BYTE + random.below(1 + BYTES_7 - BYTE);
     let sorts: &[u64] = match random.below(6) {
         0 | 1 => &[MEMORY, MEMORY, WORD, WORD, WORD, BIT],
         2 => &[BIT, BIT, BIT, WORD],
@@ -15,7 +17,7 @@ pub fn random(random: &mut Random, most_nodes: u64) -> Table {
         4 => &[WORD, WORD, WORD, BIT],
         _ => &[BIT, WORD, MEMORY, narrow],
     };
-    let mode = random.below(8);
+    let mode = random.below(HIGHEST_MODE_OF_THE_RUST + 1);
     let mut draft = Draft { random, table: Table { mode, ..Table::default() }, sorts };
     draft.draw_names();
     draft.draw_inputs();
@@ -266,7 +268,7 @@ impl Draft<'_> {
 
     // A number that fits the sort.
     fn number(&mut self, sort: u64) -> u64 {
-        let ones = u64::MAX >> (64 - width(sort).unwrap_or(64));
+        let ones = largest(sort).unwrap_or(u64::MAX);
         if self.sorts.contains(&MEMORY) && self.random.chance(3, 4) {
             return ones & self.random.below(3);
         }

@@ -1,11 +1,12 @@
 // Damaged tables: each damage has a name, and draws a refusal of its own or another one where it does no harm.
 
+use crate::house::*;
 use crate::random::Random;
-use crate::table::*;
+use crate::table::{Row, Table};
 
 pub type Labels = Vec<&'static str>;
 
-const UNKNOWN: [u64; 6] = [0, 4, 10, 18, (1 << 32) + 2, u64::MAX];
+const UNKNOWN: [u64; 6] = [0, MEMORY + 1, BYTE - 1, BYTES_7 + 1, (1 << 32) + WORD, u64::MAX];
 
 // The numbers of the table after one or two damages.
 pub fn damaged(random: &mut Random, table: Table) -> Vec<u64> {
@@ -54,13 +55,13 @@ fn damage_code(random: &mut Random, table: &mut Table) -> &'static str {
     let names = table.names.len() as u64;
     match random.below(10) {
         0 => change(random, table, &[], "another kind", |random, row| {
-            row.kind = 1 + random.below(22);
+            row.kind = CONST + random.below(BAD);
         }),
         1 => change(random, table, &[], "an unknown kind", |random, row| {
-            row.kind = random.pick(&[0, 23, row.kind | 256, u64::MAX]);
+            row.kind = random.pick(&[0, BAD + 1, row.kind | 256, u64::MAX]);
         }),
         2 => change(random, table, &[], "another sort", |random, row| {
-            row.sort = random.pick(&[1, 2, 3, 11, 12, 17]);
+            row.sort = random.pick(&[BIT, WORD, MEMORY, BYTE, BYTE + 1, BYTES_7]);
         }),
         3 => change(random, table, &[], "an unknown sort", |random, row| {
             row.sort = random.pick(&UNKNOWN);
@@ -84,7 +85,8 @@ fn damage_code(random: &mut Random, table: &mut Table) -> &'static str {
             row.words[1] = MEMORY;
         }),
         _ => change(random, table, &[EXT], "another sort in an Ext", |random, row| {
-            row.words[1] = random.pick(&[0, 1, 2, 4, 11, 17, 18]);
+            let sorts = [0, BIT, WORD, MEMORY + 1, BYTE, BYTES_7, BYTES_7 + 1];
+            row.words[1] = random.pick(&sorts);
         }),
     }
 }
@@ -122,12 +124,14 @@ fn damage_list(random: &mut Random, table: &mut Table) -> &'static str {
         0 => ("an entry past the table", random.pick(&[nodes, nodes + 1, u64::MAX, 1 << 32])),
         1 | 2 => ("another entry", other),
         3 => {
-            table.names.push(vec![b'x' as u64; random.pick(&[64, 65, 66])]);
+            let length = LONGEST_NAME + random.pick(&[0, 1, 2]);
+            table.names.push(vec![b'x' as u64; length as usize]);
             return "a name that may be too long";
         }
         4 => {
-            let width = random.pick(&[1, 8, 16, 24, 32, 40, 48, 56]);
-            table.inputs.insert(0, 1 << width);
+            let sorts: Vec<u64> = [BIT].into_iter().chain(BYTE..=BYTES_7).collect();
+            let fits = largest(random.pick(&sorts)).expect("a sort of numbers");
+            table.inputs.insert(0, fits + 1);
             return "an input that is one too wide for some sort";
         }
         _ => {
@@ -145,7 +149,7 @@ fn damage_list(random: &mut Random, table: &mut Table) -> &'static str {
 // A State's second sequential, or one where it has no init; and a Next or a Bad with another sort.
 fn damage_sequential(random: &mut Random, table: &mut Table) -> &'static str {
     let other_sort = |random: &mut Random, row: &mut Row| {
-        row.sort = random.pick(&[1, 2, 3, 11, 17]);
+        row.sort = random.pick(&[BIT, WORD, MEMORY, BYTE, BYTES_7]);
     };
     let nodes = table.nodes.len() as u64;
     let listed = table.sequentials.first().copied().filter(|entry| *entry < nodes);
@@ -190,12 +194,15 @@ fn damage_words(random: &mut Random, table: &Table, words: &mut Vec<u64>) -> &'s
             let Some(count) = words.get_mut(random.pick(&table.counts())) else { return "no harm" };
             let above = count.wrapping_add(1);
             let below = count.wrapping_sub(1);
-            *count = random.pick(&[above, below, 1024, 1025, 4096, 4097, 16384, 16385, 1 << 63]);
+            let [e, n, r] = [MOST_ENTRIES, MOST_NODES, MOST_REPLIES];
+            *count = random.pick(&[above, below, e, e + 1, n, n + 1, r, r + 1, 1 << 63]);
             return "another count";
         }
         _ => {
             let word = words[at];
-            let changed = [0, 1, 64, 65, 256, word ^ 1, word ^ (1 << 32), random.word(), u64::MAX];
+            let (length, any) = (LONGEST_NAME, random.word());
+            let changed =
+                [0, 1, length, length + 1, 256, word ^ 1, word ^ (1 << 32), any, u64::MAX];
             words[at] = random.pick(&changed);
             return "another number";
         }

@@ -1,7 +1,11 @@
-// The departures: in which words a result differs from the Rust's, and where. Every other word is the Rust's own.
+// The departures: in which words a result differs from the Rust's, and where. Every other word is the Rust's own. No other file knows of one.
 
 use crate::fold::Sections;
-use crate::table::{Row, Table, AND, OR, WORD};
+use crate::house::{AND, BYTE, BYTES_7, OR, WORD};
+use crate::table::{Row, Table};
+
+// The highest mode that the Rust has; of a higher one it is not asked.
+pub const HIGHEST_MODE_OF_THE_RUST: u64 = 7;
 
 // The Rust's sort of a constant made for such a node. Here it has the node's own.
 pub struct Departure {
@@ -12,7 +16,7 @@ pub struct Departure {
 
 pub const LIST: [Departure; 1] = [Departure {
     name: "And or Or of sort 11 to 17: its constant has the node's sort, in the Rust 2",
-    made_for: |row| matches!((row.kind, row.sort), (AND | OR, 11..=17)),
+    made_for: |row| matches!((row.kind, row.sort), (AND | OR, BYTE..=BYTES_7)),
     in_the_rust: WORD,
 }];
 

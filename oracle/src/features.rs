@@ -2,8 +2,9 @@
 
 use crate::answer::Answer;
 use crate::fold::Sections;
+use crate::house::*;
 use crate::mix::Case;
-use crate::table::{tokens, width, Refusal, Table, ADD, AND, CONST, EQ, EXT, OR, SRL, ULT};
+use crate::table::{tokens, Refusal, Table};
 use std::collections::BTreeSet;
 
 pub type Feature = (&'static str, u64, u64, u64);
@@ -48,9 +49,12 @@ fn of_table(table: &Table) -> Features {
     ] {
         found.insert((name, (length as u64 + 1).ilog2() as u64, 0, 0));
     }
-    for (name, numbers) in [("need", table.need()), ("numbers", table.numbers().len())] {
-        if numbers >= 4090 {
-            found.insert((name, numbers.min(4100) as u64, 0, 0));
+    let numbers = table.numbers().len();
+    for (name, own, most) in
+        [("need", table.need(), PROGRAM_ROOM), ("numbers", numbers, MOST_NUMBERS)]
+    {
+        if own >= most - 6 {
+            found.insert((name, own.min(most + 4) as u64, 0, 0));
         }
     }
     found
@@ -62,7 +66,7 @@ fn of_refusal(refused: &Refusal, table: Option<&Table>) -> Features {
     found.insert(("refused at", number, section, 1 + position.min(4)));
     if let (1, Some(table)) = (section, table) {
         if let Some(row) = table.nodes.get(position as usize) {
-            found.insert(("refused kind", number, row.kind.min(23), 0));
+            found.insert(("refused kind", number, row.kind.min(BAD + 1), 0));
         }
     }
     found
@@ -126,7 +130,7 @@ fn of_rows(table: &Table) -> Features {
 
 // And and Or as they are left, with what stands on their two sides.
 fn of_bits(sections: &Sections) -> Features {
-    let rows: Vec<&[u64]> = sections[0].chunks(6).collect();
+    let rows: Vec<&[u64]> = sections[0].chunks(ROW_WIDTH).collect();
     let constants: Vec<&[u64]> = sections[1].chunks(2).collect();
     let side = |operand: u64, sort: u64| match rows.get(operand as usize) {
         Some(row) if row[0] != CONST => 0,
@@ -136,17 +140,16 @@ fn of_bits(sections: &Sections) -> Features {
     let bits = rows.iter().filter(|row| matches!(row[0], AND | OR));
     bits.map(|row| {
         let sides = 10 * side(row[2], row[1]) + side(row[3], row[1]);
-        ("bits", row[0], row[1].min(11), sides)
+        ("bits", row[0], row[1].min(BYTE), sides)
     })
     .collect()
 }
 
 // 1 for zero, 2 for all ones of the sort, 3 for another number.
 fn side_of(number: u64, sort: u64) -> u64 {
-    let ones = u64::MAX >> (64 - width(sort).unwrap_or(64));
     match number {
         0 => 1,
-        number if number == ones => 2,
+        number if number == largest(sort).unwrap_or(u64::MAX) => 2,
         _ => 3,
     }
 }

@@ -1,8 +1,10 @@
 // A judged table folded by the published `optimize_model_impl`, and what can be seen of it.
 
+use crate::departures::HIGHEST_MODE_OF_THE_RUST;
 use crate::graph::{build, constant, rewritten};
+use crate::house::MEMORY;
 use crate::making;
-use crate::table::{fits, refusal, Refusal, Table, MEMORY};
+use crate::table::{fits, refusal, Refusal, Table};
 use reference::unicorn::optimize::{fold_model, last_folded, Folded};
 use reference::unicorn::smt_solver::{SMTSolution, SMTSolver};
 use reference::unicorn::{Model, Node, NodeRef};
@@ -96,6 +98,7 @@ fn with_run<T>(f: impl FnOnce(&mut Run) -> T) -> T {
 }
 
 fn run(table: &Table, marked: bool, judges_inputs: bool) -> Result<Sections, Ended> {
+    assert!(table.mode <= HIGHEST_MODE_OF_THE_RUST, "the Rust has no mode {}", table.mode);
     let (nodes, markers) = build(table, marked);
     let listed = |list: &[u64]| list.iter().map(|entry| nodes[*entry as usize].clone()).collect();
     let mut model = Model {

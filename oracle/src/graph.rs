@@ -1,6 +1,7 @@
 // A judged table as the published Rust's graph of nodes, and a node of that graph as a row.
 
-use crate::table::*;
+use crate::house::*;
+use crate::table::Table;
 use reference::unicorn::optimize::sort_code;
 use reference::unicorn::{get_nodetype, Node, NodeRef, NodeType};
 

@@ -7,6 +7,7 @@ pub mod departures;
 pub mod features;
 pub mod fold;
 pub mod graph;
+pub mod house;
 pub mod making;
 pub mod mix;
 pub mod random;

@@ -1,44 +1,66 @@
 // The kept list: cases with a wrong answer, then random cases picked so that together they show every feature many times, with their answers.
-//     kept SEED POOL COUNT     COUNT cases out of POOL on standard output, half of them accepted as far as there are so many
+//     kept SEED POOL COUNT < TEXT     COUNT cases out of POOL on standard output, half of them accepted as far as there are so many; most of the
+//                                     wrong ones are of TEXT, the worked example. How many cases there are is said on standard error.
 
 use judge::answer::{answer, hide_refusals, printed};
 use judge::features::{features, Feature, Features};
+use judge::house::{BYTE, CONST, WORD};
 use judge::mix;
 use judge::random::Random;
+use judge::table::{Row, Table};
 use std::collections::{HashMap, HashSet};
 use std::io::{self, Write};
 
 // A case of more bytes, its answer included, is picked only for a feature that nothing else shows.
 const LONG: usize = 9_000;
 
-const EXAMPLE: &str = "0 4 19 2 0 0 0 1 1 2 12 0 0 0 12 1 0 1 0 0 22 1 2 0 0 0 0 1 3 0 1 12 0 1 8 104 111 108 100 45 101 110 100";
-const EXAMPLE_ANSWER: &str =
-    "accepted\n4 19 2 0 0 0 1 1 2 12 0 0 0 12 1 6 1 0 0 22 1 4 0 0 0\n3 1 0 1 1 2 12\n2 0 6 2 4\n0\n0\n0\n0\n0\n5 1 0 0 0 0\n";
-const TOO_WIDE: &str = "0 2 1 2 5 0 0 0 1 11 256 0 0 0 0 0 0 0 0 0";
-
 // A text, a part of its answer, and what is put for it: wrong in one small way, which must be counted.
-const WRONG: [(&str, &str, &str); 20] = [
-    (EXAMPLE, "accepted", "Accepted"),
-    (EXAMPLE, "accepted\n4 ", "accepted\n5 "),
-    (EXAMPLE, "2 0 6 2 4", "2 0 6 2 5"),
-    (EXAMPLE, "5 1 0 0 0 0\n", "5 1 0 0 0 1\n"),
-    (EXAMPLE, "5 1 0 0 0 0\n", "5 1 0 0 0 0 "),
-    (EXAMPLE, "12\n2", "12 2"),
-    (EXAMPLE, "5 1 0 0 0 0\n", "5 1 0 0 0 0"),
-    (EXAMPLE, "5 1 0 0 0 0\n", "5 1 0 0 0\n"),
-    (EXAMPLE, "5 1 0 0 0 0\n", ""),
-    (EXAMPLE, "5 1 0 0 0 0\n", "5 1 0 0 0 0 0\n"),
-    (EXAMPLE, "5 1 0 0 0 0\n", "5 1 0 0 0 0\n0\n"),
-    (EXAMPLE, "5 1 0 0 0 0\n", "5 1 0 0 0 0\n\0"),
-    (EXAMPLE, EXAMPLE_ANSWER, "refused 5 1 1\n"),
-    (TOO_WIDE, "refused 5 1 1", "refused 4 1 1"),
-    (TOO_WIDE, "refused 5 1 1", "refused 5 2 1"),
-    (TOO_WIDE, "refused 5 1 1", "refused 5 1 0"),
-    (TOO_WIDE, "refused 5 1 1", "refused 5 1 10"),
-    (TOO_WIDE, "refused 5 1 1\n", "refused 5 1 1"),
-    (TOO_WIDE, "refused 5 1 1", "accepted"),
-    ("", "refused 1 0 0", "refused 1 1 0"),
+const WRONG: [(Text, &str, &str); 20] = [
+    (Text::Example, "accepted", "Accepted"),
+    (Text::Example, "accepted\n4 ", "accepted\n5 "),
+    (Text::Example, "2 0 6 2 4", "2 0 6 2 5"),
+    (Text::Example, "5 1 0 0 0 0\n", "5 1 0 0 0 1\n"),
+    (Text::Example, "5 1 0 0 0 0\n", "5 1 0 0 0 0 "),
+    (Text::Example, "12\n2", "12 2"),
+    (Text::Example, "5 1 0 0 0 0\n", "5 1 0 0 0 0"),
+    (Text::Example, "5 1 0 0 0 0\n", "5 1 0 0 0\n"),
+    (Text::Example, "5 1 0 0 0 0\n", ""),
+    (Text::Example, "5 1 0 0 0 0\n", "5 1 0 0 0 0 0\n"),
+    (Text::Example, "5 1 0 0 0 0\n", "5 1 0 0 0 0\n0\n"),
+    (Text::Example, "5 1 0 0 0 0\n", "5 1 0 0 0 0\n\0"),
+    (Text::Example, WHOLE, "refused 5 1 1\n"),
+    (Text::TooWide, "refused 5 1 1", "refused 4 1 1"),
+    (Text::TooWide, "refused 5 1 1", "refused 5 2 1"),
+    (Text::TooWide, "refused 5 1 1", "refused 5 1 0"),
+    (Text::TooWide, "refused 5 1 1", "refused 5 1 10"),
+    (Text::TooWide, "refused 5 1 1\n", "refused 5 1 1"),
+    (Text::TooWide, "refused 5 1 1", "accepted"),
+    (Text::Nothing, "refused 1 0 0", "refused 1 1 0"),
 ];
+const WHOLE: &str = "the whole answer";
+
+#[derive(Clone, Copy)]
+enum Text {
+    Example,
+    TooWide,
+    Nothing,
+}
+
+impl Text {
+    // The numbers on one line. What is too wide is a byte of 256.
+    fn of(self, example: &str) -> String {
+        let row = |sort, number| Row { kind: CONST, sort, words: [number, 0, 0], name: 0 };
+        let numbers: Vec<String> = match self {
+            Text::Example => example.split_ascii_whitespace().map(str::to_string).collect(),
+            Text::TooWide => {
+                let table = Table { nodes: vec![row(WORD, 5), row(BYTE, 256)], ..Table::default() };
+                table.numbers().iter().map(u64::to_string).collect()
+            }
+            Text::Nothing => vec![],
+        };
+        numbers.join(" ")
+    }
+}
 
 struct Kept {
     text: Vec<u8>,
@@ -60,16 +82,21 @@ fn main() -> io::Result<()> {
         std::process::exit(2);
     };
     hide_refusals();
+    let example = io::read_to_string(io::stdin())?;
     let (accepted, refused): (Vec<Kept>, Vec<Kept>) =
         draw(seed, pool).into_iter().partition(|case| case.accepted);
     let half = (count as usize / 2).min(accepted.len());
     let mut out = io::BufWriter::new(io::stdout().lock());
     for (text, own, other) in WRONG {
-        put(&mut out, text.as_bytes(), wrong_answer(text, own, other).as_bytes())?;
+        let text = text.of(&example);
+        put(&mut out, text.as_bytes(), wrong_answer(&text, own, other).as_bytes())?;
     }
+    let mut cases = WRONG.len();
     for case in pick(&accepted, half).chain(pick(&refused, count as usize - half)) {
         put(&mut out, &case.text, &case.answer)?;
+        cases += 1;
     }
+    eprintln!("{cases} cases, {} wrong", WRONG.len());
     out.flush()
 }
 
@@ -82,6 +109,7 @@ fn put(out: &mut impl Write, text: &[u8], answer: &[u8]) -> io::Result<()> {
 
 fn wrong_answer(text: &str, own: &str, other: &str) -> String {
     let right = String::from_utf8(printed(&answer(text.as_bytes()))).expect("an answer is text");
+    let own = if own == WHOLE { &right } else { own };
     assert_eq!(right.matches(own).count(), 1, "{own:?} in the answer {right:?}");
     assert_ne!(own, other);
     right.replace(own, other)

@@ -2,6 +2,8 @@
 
 use crate::cases;
 use crate::damages::{self, Labels};
+use crate::departures::HIGHEST_MODE_OF_THE_RUST;
+use crate::house::PROGRAM_NODES;
 use crate::random::Random;
 use crate::table::Table;
 use crate::texts;
@@ -52,16 +54,17 @@ pub fn case(random: &mut Random) -> Case {
     Case { kind, labels, text }
 }
 
-// Of ten tables, seven have at most 14 nodes, two at most 40 and one at most 185, as many as the program takes.
+// Of ten tables, seven have at most 14 nodes, two at most 40 and one at most as many as the program takes.
 fn draw_table(random: &mut Random, labels: &mut Labels) -> Table {
     let most = match random.below(10) {
         0..=6 => 14,
         7 | 8 => 40,
-        _ => 185,
+        _ => PROGRAM_NODES,
     };
     let mut table = if random.chance(1, 100) {
         labels.push("no nodes");
-        Table { mode: random.below(8), ..Table::default() }
+        let mode = random.below(HIGHEST_MODE_OF_THE_RUST + 1);
+        Table { mode, ..Table::default() }
     } else {
         cases::random(random, most)
     };

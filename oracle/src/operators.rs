@@ -1,29 +1,13 @@
 // Prints the operator cases: kind, left, right, answer; Not has its sort's code on the right, Ext 0. Each answer is what the published fold
 // makes of a model with that one operator, and is compared with the operator's own function. Before them stand two cases of each operator
-// with a wrong answer, whose lowest or highest bit is another one.
+// with a wrong answer, whose lowest or highest bit is another one. How many cases there are is said on standard error.
 
-mod random;
-
-use random::Random;
+use judge::house::*;
+use judge::random::Random;
 use reference::unicorn::optimize::{all_ones, fold_model, sort_code, ConstantFolder};
 use reference::unicorn::smt_solver::none_impl::NoneSolver;
 use reference::unicorn::{get_nodetype, Model, Node, NodeRef, NodeType};
 use std::collections::BTreeSet;
-
-const ADD: u64 = 4;
-const SUB: u64 = 5;
-const MUL: u64 = 6;
-const DIVU: u64 = 7;
-const DIV: u64 = 8;
-const REM: u64 = 9;
-const SLL: u64 = 10;
-const SRL: u64 = 11;
-const ULT: u64 = 12;
-const EXT: u64 = 13;
-const EQ: u64 = 15;
-const AND: u64 = 16;
-const OR: u64 = 17;
-const NOT: u64 = 18;
 
 const BINARY: [u64; 12] = [ADD, SUB, MUL, DIVU, DIV, REM, SLL, SRL, ULT, EQ, AND, OR];
 const WIDTHS: [u64; 9] = [1, 8, 16, 24, 32, 40, 48, 56, 64];
@@ -51,6 +35,7 @@ const SEED: u64 = 1;
 const RANDOM_PAIRS: u64 = 250;
 
 fn main() {
+    let mut wrong = 0;
     for kind in BINARY.into_iter().chain([NOT, EXT]) {
         let left = u64::MAX - 6;
         let right = match kind {
@@ -61,6 +46,7 @@ fn main() {
         let answer = folded(kind, left, right);
         print_case(kind, left, right, answer ^ 1);
         print_case(kind, left, right, answer ^ 1 << 63);
+        wrong += 2;
     }
 
     let mut cases = Cases(BTreeSet::new());
@@ -103,6 +89,7 @@ fn main() {
         let value = random_word(&mut random);
         cases.print(EXT, value, 0);
     }
+    eprintln!("{} cases, {wrong} wrong", wrong + cases.0.len());
 }
 
 fn mask(width: u64) -> u64 {

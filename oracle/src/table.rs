@@ -1,5 +1,7 @@
 // A table, read from text and judged: refusals 1 to 7 and 12, of which the published Rust has little.
 
+use crate::house::*;
+
 #[derive(Clone, Copy, Debug, PartialEq)]
 pub struct Refusal {
     pub number: u64,
@@ -31,61 +33,21 @@ pub struct Table {
     pub names: Vec<Vec<u64>>,
 }
 
-pub const CONST: u64 = 1;
-pub const READ: u64 = 2;
-pub const WRITE: u64 = 3;
-pub const ADD: u64 = 4;
-pub const SUB: u64 = 5;
-pub const MUL: u64 = 6;
-pub const DIVU: u64 = 7;
-pub const DIV: u64 = 8;
-pub const REM: u64 = 9;
-pub const SLL: u64 = 10;
-pub const SRL: u64 = 11;
-pub const ULT: u64 = 12;
-pub const EXT: u64 = 13;
-pub const ITE: u64 = 14;
-pub const EQ: u64 = 15;
-pub const AND: u64 = 16;
-pub const OR: u64 = 17;
-pub const NOT: u64 = 18;
-pub const STATE: u64 = 19;
-pub const NEXT: u64 = 20;
-pub const INPUT: u64 = 21;
-pub const BAD: u64 = 22;
-
-pub const BIT: u64 = 1;
-pub const WORD: u64 = 2;
-pub const MEMORY: u64 = 3;
-
-pub const MOST_NUMBERS: usize = 4096;
-pub const MOST_RESULT_WORDS: usize = 4096;
-pub const MOST_NODES: u64 = 4096;
-pub const MOST_ENTRIES: u64 = 1024;
-pub const MOST_INPUTS: u64 = 4096;
-pub const MOST_REPLIES: u64 = 16384;
-pub const MOST_NAMES: u64 = 4096;
-pub const LONGEST_NAME: u64 = 64;
-
-// The limits of sections 1 to 7.
-pub const LIMITS: [u64; 7] =
-    [MOST_NODES, MOST_ENTRIES, MOST_ENTRIES, MOST_ENTRIES, MOST_INPUTS, MOST_REPLIES, MOST_NAMES];
-
-// The bits of a sort other than memory; nothing for a word that is no such sort.
-pub fn width(sort: u64) -> Option<u64> {
-    match sort {
-        BIT => Some(1),
-        WORD => Some(64),
-        11..=17 => Some(8 * (sort - 10)),
-        _ => None,
-    }
-}
-
 pub fn fits(number: u64, sort: u64) -> bool {
-    width(sort).is_some_and(|width| number <= u64::MAX >> (64 - width))
+    largest(sort).is_some_and(|largest| number <= largest)
 }
 
 impl Row {
+    fn of(words: &[u64; ROW_WIDTH]) -> Row {
+        let [kind, sort, a, b, c, name] = *words;
+        Row { kind, sort, words: [a, b, c], name }
+    }
+
+    fn all_words(&self) -> [u64; ROW_WIDTH] {
+        let [a, b, c] = self.words;
+        [self.kind, self.sort, a, b, c, self.name]
+    }
+
     // The words that name nodes. A State's a does so where its b is 1.
     pub fn operands(&self) -> &[u64] {
         let count = match self.kind {
@@ -112,12 +74,10 @@ impl Table {
     pub fn cut(text: &[u8]) -> Result<Table, Refusal> {
         let numbers = numbers(text)?;
         let mut rest = &numbers[1..];
-        let nodes = section(&mut rest, 1, MOST_NODES, 6)?;
+        let nodes = section(&mut rest, 1, MOST_NODES, ROW_WIDTH)?;
         Ok(Table {
             mode: numbers[0],
-            nodes: (nodes.chunks(6))
-                .map(|w| Row { kind: w[0], sort: w[1], words: [w[2], w[3], w[4]], name: w[5] })
-                .collect(),
+            nodes: nodes.as_chunks().0.iter().map(Row::of).collect(),
             sequentials: section(&mut rest, 2, MOST_ENTRIES, 1)?,
             initial_bads: section(&mut rest, 3, MOST_ENTRIES, 1)?,
             sequential_bads: section(&mut rest, 4, MOST_ENTRIES, 1)?,
@@ -129,11 +89,7 @@ impl Table {
 
     pub fn numbers(&self) -> Vec<u64> {
         let mut out = vec![self.mode, self.nodes.len() as u64];
-        for row in &self.nodes {
-            out.extend([row.kind, row.sort]);
-            out.extend(row.words);
-            out.push(row.name);
-        }
+        out.extend(self.nodes.iter().flat_map(Row::all_words));
         for list in self.lists() {
             out.push(list.len() as u64);
             out.extend(list);
@@ -155,7 +111,7 @@ impl Table {
     // Where the counts of sections 1 to 7 stand among the numbers.
     pub fn counts(&self) -> [usize; 7] {
         let mut counts = [1; 7];
-        counts[1] = 2 + 6 * self.nodes.len();
+        counts[1] = 2 + ROW_WIDTH * self.nodes.len();
         for (at, list) in self.lists().into_iter().enumerate() {
             counts[at + 2] = counts[at + 1] + 1 + list.len();
         }
@@ -165,11 +121,12 @@ impl Table {
     // The words that result and scratch need.
     pub fn need(&self) -> usize {
         let bads = self.initial_bads.len() + self.sequential_bads.len();
-        22 * self.nodes.len() + 5 * bads + self.sequentials.len() + self.inputs.len() + 22
+        let entries = self.sequentials.len() + self.inputs.len();
+        NODE_ROOM * self.nodes.len() + BAD_ROOM * bads + entries + LEAST_ROOM
     }
 
     fn judge_room(&self) -> Result<(), Refusal> {
-        if self.need() > MOST_RESULT_WORDS {
+        if self.need() > PROGRAM_ROOM {
             return Err(refusal(12, 8, 0));
         }
         Ok(())
@@ -273,7 +230,7 @@ fn numbers(text: &[u8]) -> Result<Vec<u64>, Refusal> {
             return Err(refusal(2, 0, place as u64));
         }
         match number(token) {
-            Some(mode) if place == 0 && mode > 7 => return Err(refusal(1, 0, 0)),
+            Some(mode) if place == 0 && mode > HIGHEST_MODE => return Err(refusal(1, 0, 0)),
             Some(number) => numbers.push(number),
             None => return Err(refusal(1, 0, place as u64)),
         }

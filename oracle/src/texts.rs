@@ -1,8 +1,9 @@
 // The text in front of a table: its numbers set out in lines or with odd blanks, and texts that are damaged.
 
 use crate::damages::Labels;
+use crate::house::{HIGHEST_MODE, LIMITS, LONGEST_NAME, MOST_NUMBERS, ROW_WIDTH};
 use crate::random::Random;
-use crate::table::{Table, LIMITS, MOST_NUMBERS};
+use crate::table::Table;
 
 const BLANKS: [&[u8]; 8] = [b" ", b" ", b" ", b"\n", b"\t", b"\r", b"\r\n", b" \t \n\n "];
 
@@ -124,7 +125,7 @@ pub fn damaged(random: &mut Random, table: &mut Table, labels: &mut Labels) -> V
 // A section's count at its limit, just past it, or far.
 fn raise_count(random: &mut Random, counts: &[usize; 7], tokens: &mut Tokens) -> &'static str {
     let section = random.below(7) as usize;
-    let far = random.pick(&[1 << 32, 1 << 61, u64::MAX / 6 + 1, u64::MAX]);
+    let far = random.pick(&[1 << 32, 1 << 61, u64::MAX / ROW_WIDTH as u64 + 1, u64::MAX]);
     let count = random.pick(&[LIMITS[section], LIMITS[section] + 1, LIMITS[section] + 1, far]);
     tokens[counts[section]] = count.to_string().into_bytes();
     "a count at its limit or past it"
@@ -158,21 +159,21 @@ fn damage_mode(random: &mut Random, tokens: &mut Tokens) -> &'static str {
             "a mode with zeros in front"
         }
         _ => {
-            let mode = random.pick(&[8, 9, 256, u64::MAX]);
+            let mode = random.pick(&[HIGHEST_MODE + 1, HIGHEST_MODE + 2, 256, u64::MAX]);
             tokens[0] = mode.to_string().into_bytes();
-            "a mode above 7"
+            "a mode that is too high"
         }
     }
 }
 
-// Numbers up to the 4,096th and past it, and junk about there.
+// As many numbers as there may be, one more, and junk about there.
 fn damage_size(random: &mut Random, tokens: &mut Tokens) -> &'static str {
     let (label, length) = match random.below(6) {
-        0 => ("4,096 numbers", MOST_NUMBERS),
-        1 => ("4,097 numbers", MOST_NUMBERS + 1),
-        2 => ("junk at place 4,095", MOST_NUMBERS - 1),
-        3 => ("junk at place 4,096", MOST_NUMBERS),
-        4 => ("junk at place 4,097", MOST_NUMBERS + 1),
+        0 => ("most numbers", MOST_NUMBERS),
+        1 => ("one number too many", MOST_NUMBERS + 1),
+        2 => ("junk as the last number", MOST_NUMBERS - 1),
+        3 => ("junk after most numbers", MOST_NUMBERS),
+        4 => ("junk after one too many", MOST_NUMBERS + 1),
         _ => ("very many numbers", MOST_NUMBERS + 1 + random.below(3000) as usize),
     };
     let fill = random.pick(&[b"0", b"1"]).to_vec();
@@ -214,6 +215,7 @@ fn rewrite_number(random: &mut Random, tokens: &mut Tokens) -> &'static str {
 // Names: lengths and byte values at their limits and past them.
 fn damage_names(random: &mut Random, table: &mut Table) -> &'static str {
     let wide = random.pick(&[256, 256, 256, 257, 1 << 32, u64::MAX]);
+    let longest = LONGEST_NAME as usize;
     match random.below(7) {
         0 => {
             table.names.push(vec![97, wide]);
@@ -224,16 +226,16 @@ fn damage_names(random: &mut Random, table: &mut Table) -> &'static str {
             }
         }
         1 => {
-            table.names.extend([vec![wide], vec![97; 65]]);
-            "a byte above 255 before a name of 65"
+            table.names.extend([vec![wide], vec![97; longest + 1]]);
+            "a byte above 255 before a name that is too long"
         }
         2 => {
-            table.names.extend([vec![97; 65], vec![wide]]);
-            "a name of 65 before a byte above 255"
+            table.names.extend([vec![97; longest + 1], vec![wide]]);
+            "a name that is too long before a byte above 255"
         }
         3 => {
-            table.names.push(vec![255; 64]);
-            "a name of 64 bytes 255"
+            table.names.push(vec![255; longest]);
+            "a longest name of bytes 255"
         }
         4 => {
             table.names.resize(random.pick(&[1, 100, 3000]), vec![]);

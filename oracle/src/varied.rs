@@ -1,8 +1,9 @@
 // Tables varied further: long names and many, chains of writes, wide inputs, bads listed twice, and sizes at the program's limits.
 
 use crate::damages::Labels;
+use crate::house::*;
 use crate::random::Random;
-use crate::table::*;
+use crate::table::{Row, Table};
 
 // Operands at which an operator does something of its own.
 const OPERANDS: [u64; 12] =
@@ -53,7 +54,8 @@ fn push(table: &mut Table, kind: u64, sort: u64, words: [u64; 3], name: u64) -> 
 
 // A name of its own, for some node that may have one.
 fn lengthen_name(random: &mut Random, table: &mut Table) -> &'static str {
-    let length = random.pick(&[0, 1, 10, 11, 12, 63, 64]);
+    let longest = LONGEST_NAME as usize;
+    let length = random.pick(&[0, 1, 10, 11, 12, longest - 1, longest]);
     let start: &[u8] = if random.chance(1, 2) { b"memory-dump" } else { b"" };
     let mut name: Vec<u64> = start.iter().map(|byte| *byte as u64).collect();
     name.resize_with(length, || random.below(256));
@@ -64,7 +66,7 @@ fn lengthen_name(random: &mut Random, table: &mut Table) -> &'static str {
     if !named.is_empty() {
         table.nodes[random.pick(&named)].name = table.names.len() as u64;
     }
-    "a name of 0 to 64 bytes"
+    "a name of its own"
 }
 
 // A memory under writes at few addresses, settled and not, perhaps an Ite between; and reads of it.
@@ -148,7 +150,7 @@ fn list_twice(table: &mut Table) -> &'static str {
     table.initial_bads.extend(&sequential);
     table.initial_bads.extend(&initial);
     table.sequential_bads.extend(&initial);
-    table.sequential_bads.truncate(1024);
+    table.sequential_bads.truncate(MOST_ENTRIES as usize);
     "bads listed twice and in both lists"
 }
 
@@ -180,7 +182,7 @@ fn choose_memories(random: &mut Random, table: &mut Table) -> &'static str {
 
 // Entries and inputs are cut off until the program has room.
 fn cut_to_room(table: &mut Table) {
-    while table.need() > MOST_RESULT_WORDS {
+    while table.need() > PROGRAM_ROOM {
         let lists = [
             &mut table.sequential_bads,
             &mut table.initial_bads,
@@ -196,15 +198,15 @@ fn cut_to_room(table: &mut Table) {
 
 // Entries or inputs up to the room that the program has, or just past it.
 fn fill_room(random: &mut Random, table: &mut Table) -> &'static str {
-    let wanted = MOST_RESULT_WORDS + random.pick(&[0, 0, 0, 1, 2, 20]);
+    let wanted = PROGRAM_ROOM + random.pick(&[0, 0, 0, 1, 2, 20]);
     let bad = table.nodes.iter().position(|row| row.kind == BAD);
     if let (Some(bad), true) = (bad, random.chance(1, 2)) {
-        let most = if random.chance(1, 2) { 1024 } else { 100 };
-        while table.need() + 5 <= wanted && table.sequential_bads.len() < most {
+        let most = if random.chance(1, 2) { MOST_ENTRIES } else { 100 };
+        while table.need() + BAD_ROOM <= wanted && table.sequential_bads.len() < most as usize {
             table.sequential_bads.push(bad as u64);
         }
     }
-    while table.need() < wanted && table.inputs.len() < 4096 {
+    while table.need() < wanted && table.inputs.len() < MOST_INPUTS as usize {
         table.inputs.push(random.below(2));
     }
     "room filled"

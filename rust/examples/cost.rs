@@ -3,14 +3,16 @@
 // Each time is the fastest of at least 50 runs and a quarter of a second, in a process for each row: what an allocator keeps depends on what
 // was freed before.
 
-use gemtweed::{here, optimize_model_impl, stack_for, Folded, Mode, Node, NodeId, Sort, Table};
+use gemtweed::{
+    here, optimize_model_impl, stack_for, Folded, Mode, Node, NodeId, Sort, Table, MOST_NODES,
+};
 use std::hint::black_box;
 use std::process::Command;
 use std::time::{Duration, Instant};
 
 const SHAPES: [(&str, fn(u64) -> Table); 2] =
     [("deep chain", deep_chain), ("wide tree", wide_tree)];
-const SIZES: [u64; 4] = [64, 256, 1024, 4096];
+const SIZES: [u64; 4] = [64, 256, 1024, MOST_NODES as u64];
 const LEAST_RUNS: u32 = 50;
 const LEAST_TIME: Duration = Duration::from_millis(250);
 

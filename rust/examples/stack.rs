@@ -1,8 +1,8 @@
-// The least thread stack that folds a chain of 4,096 nodes of each kind, by trying sizes, a process for each try.
+// The least thread stack that folds a chain of as many nodes as there may be of each kind, by trying sizes, a process for each try.
 //     cargo run --release --offline --example stack
-// Its lines: the kind, bytes of stack for 2,048 and for 4,096 nodes, and by how many bytes a node they differ.
+// Its lines: the kind, bytes of stack for half as many and for all, and by how many bytes a node they differ.
 
-use gemtweed::{here, Mode, Name, Node, NodeId, Sort, Table};
+use gemtweed::{here, Mode, Name, Node, NodeId, Sort, Table, MOST_NODES};
 use std::process::{Command, Stdio};
 
 type Chain = fn(&mut Table, NodeId) -> Node;
@@ -113,7 +113,8 @@ fn main() {
         return fold_on(kind, nodes, stack);
     }
     for (kind, (name, ..)) in CHAINS.iter().enumerate() {
-        let (half, whole) = (least(kind, 2048), least(kind, 4096));
-        println!("{name}: {half} {whole}, {} a node", (whole - half) / 2048);
+        let nodes = MOST_NODES / 2;
+        let (half, whole) = (least(kind, nodes), least(kind, 2 * nodes));
+        println!("{name}: {half} {whole}, {} a node", (whole - half) / nodes);
     }
 }

@@ -1,8 +1,8 @@
 //! The calls over slices: on a thread with stack enough, or on the caller's own.
 
 use crate::ffi;
+use crate::house::{LONGEST_NAME, MOST_NODES};
 use crate::refusal::Refusal;
-use crate::table::{LONGEST_NAME, MOST_NODES};
 
 /// The stack given for each node of a table, in bytes: some five times what was measured (docs/PERFORMANCE.md, "Stack").
 pub const STACK_PER_NODE: usize = 1024;

@@ -1,5 +1,6 @@
 //! What an accepted call hands back, read as Rust values.
 
+use crate::house::ROW_WIDTH;
 use crate::node::{Node, NodeId, Sort};
 
 /// What the solver answers to a question.
@@ -97,7 +98,7 @@ impl Folded {
     /// Reads the words of a result; nothing if they are no result.
     pub fn read(words: &[u64]) -> Option<Folded> {
         let mut rest = words;
-        let nodes = section(&mut rest, 6)?;
+        let nodes = section(&mut rest, ROW_WIDTH)?;
         let constants = section(&mut rest, 2)?;
         let replacements = section(&mut rest, 2)?;
         let sequentials = numbers(&mut rest)?;
@@ -108,7 +109,7 @@ impl Folded {
         let tally = Tally::read(section(&mut rest, 1)?)?;
         rest.is_empty().then_some(())?;
         Some(Folded {
-            nodes: nodes.chunks(6).map(read_node).collect::<Option<_>>()?,
+            nodes: nodes.chunks(ROW_WIDTH).map(read_node).collect::<Option<_>>()?,
             constants: constants.chunks(2).map(read_constant).collect::<Option<_>>()?,
             replacements: replacements.chunks(2).map(|w| (NodeId(w[0]), NodeId(w[1]))).collect(),
             sequentials,

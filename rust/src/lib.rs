@@ -34,6 +34,7 @@
 mod call;
 mod ffi;
 mod folded;
+mod house;
 mod node;
 mod refusal;
 mod table;
@@ -43,9 +44,10 @@ pub use call::{
     stack_for, STACK_BASE, STACK_PER_NODE,
 };
 pub use folded::{Asked, Constant, Folded, Question, Reply, Tally, Verdict};
+pub use house::{
+    BAD_ROOM, HIGHEST_MODE, LEAST_ROOM, LONGEST_NAME, MOST_ENTRIES, MOST_INPUTS, MOST_NAMES,
+    MOST_NODES, MOST_REPLIES, NODE_ROOM, ROW_WIDTH,
+};
 pub use node::{Name, Node, NodeId, Sort};
 pub use refusal::{Buffer, Refusal};
-pub use table::{
-    room_for, Mode, Table, LONGEST_NAME, MOST_ENTRIES, MOST_INPUTS, MOST_NAMES, MOST_NODES,
-    MOST_REPLIES,
-};
+pub use table::{room_for, Mode, Table};

@@ -1,4 +1,6 @@
-//! Sorts, nodes and names, and the six words of a node.
+//! Sorts, nodes and names, and the words of a node.
+
+use crate::house::*;
 
 /// What a node's value is.
 #[derive(Clone, Copy, Debug, PartialEq, Eq, Hash)]
@@ -50,20 +52,20 @@ pub enum Node {
 impl Sort {
     pub fn code(self) -> u64 {
         match self {
-            Sort::Bit => 1,
-            Sort::Word => 2,
-            Sort::Memory => 3,
-            Sort::Bytes(bytes @ 1..=7) => 10 + u64::from(bytes),
+            Sort::Bit => BIT,
+            Sort::Word => WORD,
+            Sort::Memory => MEMORY,
+            Sort::Bytes(bytes @ 1..=7) => BYTE - 1 + u64::from(bytes),
             Sort::Bytes(_) => 0,
         }
     }
 
     pub fn from_code(code: u64) -> Option<Sort> {
         match code {
-            1 => Some(Sort::Bit),
-            2 => Some(Sort::Word),
-            3 => Some(Sort::Memory),
-            11..=17 => Some(Sort::Bytes((code - 10) as u8)),
+            BIT => Some(Sort::Bit),
+            WORD => Some(Sort::Word),
+            MEMORY => Some(Sort::Memory),
+            BYTE..=BYTES_7 => Some(Sort::Bytes((code - BYTE + 1) as u8)),
             _ => None,
         }
     }
@@ -71,72 +73,71 @@ impl Sort {
 
 impl Node {
     /// Kind, sort, a, b, c, name.
-    pub fn words(&self) -> [u64; 6] {
-        let two = |kind, sort: Sort, left: NodeId, right: NodeId| {
-            [kind, sort.code(), left.0, right.0, 0, 0]
-        };
-        let name = |name: Option<Name>| name.map_or(0, |name| name.0);
-        match *self {
-            Node::Const { sort, number } => [1, sort.code(), number, 0, 0, 0],
-            Node::Read { memory, address } => two(2, Sort::Word, memory, address),
+    pub fn words(&self) -> [u64; ROW_WIDTH] {
+        let two = |kind, sort, left: NodeId, right: NodeId| (kind, sort, [left.0, right.0, 0], 0);
+        let number = |name: Option<Name>| name.map_or(0, |name| name.0);
+        let (kind, sort, [a, b, c], name) = match *self {
+            Node::Const { sort, number } => (CONST, sort, [number, 0, 0], 0),
+            Node::Read { memory, address } => two(READ, Sort::Word, memory, address),
             Node::Write { memory, address, value } => {
-                [3, Sort::Memory.code(), memory.0, address.0, value.0, 0]
+                (WRITE, Sort::Memory, [memory.0, address.0, value.0], 0)
             }
-            Node::Add { left, right } => two(4, Sort::Word, left, right),
-            Node::Sub { left, right } => two(5, Sort::Word, left, right),
-            Node::Mul { left, right } => two(6, Sort::Word, left, right),
-            Node::Divu { left, right } => two(7, Sort::Word, left, right),
-            Node::Div { left, right } => two(8, Sort::Word, left, right),
-            Node::Rem { left, right } => two(9, Sort::Word, left, right),
-            Node::Sll { left, right } => two(10, Sort::Word, left, right),
-            Node::Srl { left, right } => two(11, Sort::Word, left, right),
-            Node::Ult { left, right } => two(12, Sort::Bit, left, right),
-            Node::Ext { from, value } => [13, Sort::Word.code(), value.0, from.code(), 0, 0],
+            Node::Add { left, right } => two(ADD, Sort::Word, left, right),
+            Node::Sub { left, right } => two(SUB, Sort::Word, left, right),
+            Node::Mul { left, right } => two(MUL, Sort::Word, left, right),
+            Node::Divu { left, right } => two(DIVU, Sort::Word, left, right),
+            Node::Div { left, right } => two(DIV, Sort::Word, left, right),
+            Node::Rem { left, right } => two(REM, Sort::Word, left, right),
+            Node::Sll { left, right } => two(SLL, Sort::Word, left, right),
+            Node::Srl { left, right } => two(SRL, Sort::Word, left, right),
+            Node::Ult { left, right } => two(ULT, Sort::Bit, left, right),
+            Node::Ext { from, value } => (EXT, Sort::Word, [value.0, from.code(), 0], 0),
             Node::Ite { sort, condition, left, right } => {
-                [14, sort.code(), condition.0, left.0, right.0, 0]
+                (ITE, sort, [condition.0, left.0, right.0], 0)
             }
-            Node::Eq { left, right } => two(15, Sort::Bit, left, right),
-            Node::And { sort, left, right } => two(16, sort, left, right),
-            Node::Or { sort, left, right } => two(17, sort, left, right),
-            Node::Not { sort, value } => [18, sort.code(), value.0, 0, 0, 0],
-            Node::State { sort, init: Some(init), name: n } => {
-                [19, sort.code(), init.0, 1, 0, name(n)]
+            Node::Eq { left, right } => two(EQ, Sort::Bit, left, right),
+            Node::And { sort, left, right } => two(AND, sort, left, right),
+            Node::Or { sort, left, right } => two(OR, sort, left, right),
+            Node::Not { sort, value } => (NOT, sort, [value.0, 0, 0], 0),
+            Node::State { sort, init: Some(init), name } => {
+                (STATE, sort, [init.0, 1, 0], number(name))
             }
-            Node::State { sort, init: None, name: n } => [19, sort.code(), 0, 0, 0, name(n)],
-            Node::Next { sort, state, next } => two(20, sort, state, next),
-            Node::Input { sort, name } => [21, sort.code(), 0, 0, 0, name.0],
-            Node::Bad { condition, name: n } => [22, Sort::Bit.code(), condition.0, 0, 0, name(n)],
-        }
+            Node::State { sort, init: None, name } => (STATE, sort, [0; 3], number(name)),
+            Node::Next { sort, state, next } => two(NEXT, sort, state, next),
+            Node::Input { sort, name } => (INPUT, sort, [0; 3], name.0),
+            Node::Bad { condition, name } => (BAD, Sort::Bit, [condition.0, 0, 0], number(name)),
+        };
+        [kind, sort.code(), a, b, c, name]
     }
 
-    /// The node of six words whose kind and sort codes are known. What the kind does not use is not looked at.
-    pub fn from_words([kind, sort, a, b, c, name]: [u64; 6]) -> Option<Node> {
+    /// The node of words whose kind and sort codes are known. What the kind does not use is not looked at.
+    pub fn from_words([kind, sort, a, b, c, name]: [u64; ROW_WIDTH]) -> Option<Node> {
         let sort = Sort::from_code(sort)?;
         let (left, right) = (NodeId(a), NodeId(b));
         let given = (name != 0).then_some(Name(name));
         Some(match kind {
-            1 => Node::Const { sort, number: a },
-            2 => Node::Read { memory: left, address: right },
-            3 => Node::Write { memory: left, address: right, value: NodeId(c) },
-            4 => Node::Add { left, right },
-            5 => Node::Sub { left, right },
-            6 => Node::Mul { left, right },
-            7 => Node::Divu { left, right },
-            8 => Node::Div { left, right },
-            9 => Node::Rem { left, right },
-            10 => Node::Sll { left, right },
-            11 => Node::Srl { left, right },
-            12 => Node::Ult { left, right },
-            13 => Node::Ext { from: Sort::from_code(b)?, value: left },
-            14 => Node::Ite { sort, condition: left, left: right, right: NodeId(c) },
-            15 => Node::Eq { left, right },
-            16 => Node::And { sort, left, right },
-            17 => Node::Or { sort, left, right },
-            18 => Node::Not { sort, value: left },
-            19 => Node::State { sort, init: (b == 1).then_some(left), name: given },
-            20 => Node::Next { sort, state: left, next: right },
-            21 => Node::Input { sort, name: Name(name) },
-            22 => Node::Bad { condition: left, name: given },
+            CONST => Node::Const { sort, number: a },
+            READ => Node::Read { memory: left, address: right },
+            WRITE => Node::Write { memory: left, address: right, value: NodeId(c) },
+            ADD => Node::Add { left, right },
+            SUB => Node::Sub { left, right },
+            MUL => Node::Mul { left, right },
+            DIVU => Node::Divu { left, right },
+            DIV => Node::Div { left, right },
+            REM => Node::Rem { left, right },
+            SLL => Node::Sll { left, right },
+            SRL => Node::Srl { left, right },
+            ULT => Node::Ult { left, right },
+            EXT => Node::Ext { from: Sort::from_code(b)?, value: left },
+            ITE => Node::Ite { sort, condition: left, left: right, right: NodeId(c) },
+            EQ => Node::Eq { left, right },
+            AND => Node::And { sort, left, right },
+            OR => Node::Or { sort, left, right },
+            NOT => Node::Not { sort, value: left },
+            STATE => Node::State { sort, init: (b == 1).then_some(left), name: given },
+            NEXT => Node::Next { sort, state: left, next: right },
+            INPUT => Node::Input { sort, name: Name(name) },
+            BAD => Node::Bad { condition: left, name: given },
             _ => return None,
         })
     }

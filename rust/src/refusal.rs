@@ -1,6 +1,7 @@
 //! Why a call is refused.
 
 use crate::ffi::Answer;
+use crate::house::HIGHEST_MODE;
 use std::fmt;
 
 /// Which of the two lent buffers.
@@ -13,7 +14,7 @@ pub enum Buffer {
 /// Why a call is refused, and where. Each case has a number from 1 to 14, none has 9; lists and places count from 0, sections from 1.
 #[derive(Clone, Copy, Debug, PartialEq, Eq, Hash)]
 pub enum Refusal {
-    /// 1: a mode above 7.
+    /// 1: a mode above [`HIGHEST_MODE`].
     Mode,
     /// 1: a section is short, or something is left over after the last (6 for words, 7 for names).
     Short { section: u64 },
@@ -139,7 +140,7 @@ impl fmt::Display for Refusal {
         let named = section_name(self.section());
         let place = self.position();
         match self {
-            Refusal::Mode => write!(f, "mode: above 7"),
+            Refusal::Mode => write!(f, "mode: above {HIGHEST_MODE}"),
             Refusal::Short { section: 6 } => {
                 write!(f, "replies: too few words, or words left over")
             }

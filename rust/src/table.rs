@@ -2,18 +2,9 @@
 
 use crate::call;
 use crate::folded::{Folded, Reply};
+use crate::house::{BAD_ROOM, LEAST_ROOM, NODE_ROOM};
 use crate::node::{Name, Node, NodeId};
 use crate::refusal::Refusal;
-
-/// The nodes that a table has at most.
-pub const MOST_NODES: usize = 4096;
-/// The entries that each list has at most: sequentials, initial bads, sequential bads.
-pub const MOST_ENTRIES: usize = 1024;
-pub const MOST_INPUTS: usize = 4096;
-pub const MOST_REPLIES: usize = 16384;
-pub const MOST_NAMES: usize = 4096;
-/// The bytes that a name has at most.
-pub const LONGEST_NAME: usize = 64;
 
 /// What a fold is asked for besides folding.
 #[derive(Clone, Copy, Debug, Default, PartialEq, Eq, Hash)]
@@ -53,7 +44,7 @@ impl Table {
         NodeId(self.nodes.len() as u64 - 1)
     }
 
-    /// Puts a name after the others, and gives its number. A fold refuses a name of more than [`LONGEST_NAME`] bytes.
+    /// Puts a name after the others, and gives its number. A fold refuses a name of more than [`LONGEST_NAME`](crate::LONGEST_NAME) bytes.
     pub fn name(&mut self, name: &[u8]) -> Name {
         self.names.push(name.to_vec());
         Name(self.names.len() as u64)
@@ -128,5 +119,5 @@ impl Table {
 
 /// The words that result and scratch need; `bads` counts both lists.
 pub fn room_for(nodes: usize, sequentials: usize, bads: usize, inputs: usize) -> usize {
-    22 * nodes + 5 * bads + sequentials + inputs + 22
+    NODE_ROOM * nodes + BAD_ROOM * bads + sequentials + inputs + LEAST_ROOM
 }

@@ -1,15 +1,16 @@
-// Chains of 4,096 nodes: folded from a thread with little stack, as the fold has its own; and on a thread's own 2 MiB, which was measured to
+// Chains of as many nodes as a table may have: folded from a thread with little stack, as the fold has its own; and on a thread's own 2 MiB, which was measured to
 // be enough.
 
-use gemtweed::{here, Mode, Node, NodeId, Sort, Table};
+use gemtweed::{here, Mode, Node, NodeId, Sort, Table, MOST_NODES};
 
 const BIT: Sort = Sort::Bit;
+const LAST: usize = MOST_NODES - 1;
 
 fn chain(over: fn(NodeId) -> Node) -> Table {
     let mut table = Table::default();
     let name = table.name(b"x");
     let mut last = table.add(Node::Input { sort: BIT, name });
-    while table.nodes.len() < 4095 {
+    while table.nodes.len() < LAST {
         last = table.add(over(last));
     }
     let bad = table.add(Node::Bad { condition: last, name: None });
@@ -27,7 +28,7 @@ fn folds(over: fn(NodeId) -> Node) {
         let table = chain(over);
         for minimise in [false, true] {
             let folded = table.fold(Mode { minimise, ..Mode::default() }).unwrap();
-            assert_eq!(folded.initial_bads, [NodeId(4095)]);
+            assert_eq!(folded.initial_bads, [NodeId(LAST as u64)]);
         }
     });
     on_thread(2 << 20, move || {

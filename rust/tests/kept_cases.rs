@@ -6,11 +6,10 @@
 mod rows;
 mod support;
 
-use gemtweed::{Node, NodeId, Reply, Table};
+use gemtweed::{Node, NodeId, Reply, Table, ROW_WIDTH};
+use rows::house::{BYTES_7, WORD};
 use std::path::PathBuf;
 use support::{Call, NoCall};
-
-const WRONG: usize = 20;
 
 const SECTION_0: [&str; 2] = ["refused 1 0 ", "refused 2 0 "];
 
@@ -18,6 +17,12 @@ fn list() -> Vec<u8> {
     let kept = concat!(env!("CARGO_MANIFEST_DIR"), "/../crates/replay/data/cases.list");
     let path = std::env::var_os("GEMTWEED_CASES").map_or(PathBuf::from(kept), PathBuf::from);
     std::fs::read(&path).unwrap_or_else(|why| panic!("{}: {why}", path.display()))
+}
+
+// How many of the first are wrong, as what replays the list must print.
+fn wrong() -> usize {
+    let printed = include_str!("../../crates/replay/stdout");
+    printed.split(' ').nth(2).and_then(|count| count.parse().ok()).expect("cases, and how many wrong")
 }
 
 fn cases(mut rest: &[u8]) -> Vec<(&[u8], &str)> {
@@ -48,7 +53,7 @@ fn prints(input: &[u8], output: &str) -> bool {
 
 #[test]
 fn every_wrong_case() {
-    for (input, output) in &cases(&list())[..WRONG] {
+    for (input, output) in &cases(&list())[..wrong()] {
         assert!(!prints(input, output), "printed, and wrong: {output}");
     }
 }
@@ -57,7 +62,7 @@ fn every_wrong_case() {
 fn every_kept_case() {
     let list = list();
     let (mut folded, mut accepted, mut texts, mut no_bytes) = (0, 0, 0, 0);
-    for (input, output) in cases(&list).split_off(WRONG) {
+    for (input, output) in cases(&list).split_off(wrong()) {
         match support::read(input) {
             Ok(call) => {
                 assert_eq!(support::fold(&call), output, "{}", String::from_utf8_lossy(input));
@@ -90,13 +95,13 @@ fn sections(output: &str) -> Option<Vec<Vec<u64>>> {
 #[test]
 fn every_sort_of_every_kept_case() {
     let (mut accepted, mut made) = (0, 0);
-    for (input, output) in cases(&list()).split_off(WRONG) {
+    for (input, output) in cases(&list()).split_off(wrong()) {
         let Some(mut sections) = sections(output) else { continue };
         rows::judge(input, &sections).unwrap_or_else(|why| panic!("{why}: {output}"));
         accepted += 1;
         for place in (4..sections[1].len()).step_by(2) {
             let sort = sections[1][place];
-            sections[1][place] = if sort == 2 { 17 } else { 2 };
+            sections[1][place] = if sort == WORD { BYTES_7 } else { WORD };
             assert!(rows::judge(input, &sections).is_err(), "overlooked at {place}: {output}");
             sections[1][place] = sort;
             made += 1;
@@ -114,10 +119,10 @@ fn table(call: &Call) -> Option<Table> {
         rest = after;
         own[1..].to_vec()
     };
-    let nodes = section(6);
+    let nodes = section(ROW_WIDTH);
     let numbers = |list: Vec<u64>| list.into_iter().map(NodeId).collect();
     Some(Table {
-        nodes: (nodes.chunks(6))
+        nodes: (nodes.chunks(ROW_WIDTH))
             .map(|words| Node::from_words(words.try_into().unwrap()).expect("a node"))
             .collect(),
         sequentials: numbers(section(1)),

@@ -43,7 +43,8 @@ fn refused(mode: u64, table: &Table, numbers: [u64; 3], words: &str) {
 
 #[test]
 fn number_1_the_mode() {
-    refused(8, &of(&[]), [1, 0, 0], "mode: above 7");
+    let words = format!("mode: above {HIGHEST_MODE}");
+    refused(HIGHEST_MODE + 1, &of(&[]), [1, 0, 0], &words);
 }
 
 #[test]
@@ -217,10 +218,11 @@ fn number_11() {
 fn number_12() {
     let (words, names) = ([0; 6], [0, 0]);
     let short = |room| refusal(0, &words, &names, room);
-    assert_eq!(short([21, 22]), Refusal::NoRoom { buffer: Buffer::Result });
-    assert_eq!(short([22, 21]), Refusal::NoRoom { buffer: Buffer::Scratch });
+    let least = LEAST_ROOM;
+    assert_eq!(short([least - 1, least]), Refusal::NoRoom { buffer: Buffer::Result });
+    assert_eq!(short([least, least - 1]), Refusal::NoRoom { buffer: Buffer::Scratch });
     assert_eq!(short([0, 0]).to_string(), "result: too little room");
-    assert_eq!([short([22, 0]).section(), short([22, 0]).position()], [8, 1]);
+    assert_eq!([short([least, 0]).section(), short([least, 0]).position()], [8, 1]);
     assert!(of(&[]).fold(Mode::default()).is_ok());
 }
 

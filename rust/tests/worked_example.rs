@@ -4,27 +4,8 @@ mod support;
 
 use gemtweed::*;
 
-const INPUT: &str = "0
-4 19 2 0 0 0 1 1 2 12 0 0 0 12 1 0 1 0 0 22 1 2 0 0 0
-0
-1 3
-0
-1 12
-0
-1 8 104 111 108 100 45 101 110 100
-";
-
-const OUTPUT: &str = "accepted
-4 19 2 0 0 0 1 1 2 12 0 0 0 12 1 6 1 0 0 22 1 4 0 0 0
-3 1 0 1 1 2 12
-2 0 6 2 4
-0
-0
-0
-0
-0
-5 1 0 0 0 0
-";
+const INPUT: &str = include_str!("../../crates/optimize_model/stdin");
+const OUTPUT: &str = include_str!("../../crates/optimize_model/stdout");
 
 fn table() -> Table {
     let mut table = Table::default();

@@ -27,7 +27,7 @@ enum { WORDS = sizeof words / sizeof words[0] };
 
 static void print_sections(const uint64_t *at)
 {
-    static const size_t widths[] = {6, 2, 2, 1, 1, 1, 1, 4, 1};
+    static const size_t widths[] = {GEMTWEED_ROW_WIDTH, 2, 2, 1, 1, 1, 1, 4, 1};
     puts("accepted");
     for (size_t section = 0; section < 9; section++) {
         size_t left = widths[section] * (size_t)*at;

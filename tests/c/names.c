@@ -58,8 +58,8 @@ static void put(uint64_t count, const uint64_t *given)
 
 static void row(uint64_t kind, uint64_t sort, uint64_t a, uint64_t b, uint64_t c, uint64_t name)
 {
-    const uint64_t six[] = {kind, sort, a, b, c, name};
-    put(6, six);
+    const uint64_t given[GEMTWEED_ROW_WIDTH] = {kind, sort, a, b, c, name};
+    put(GEMTWEED_ROW_WIDTH, given);
 }
 
 /* A section of so many entries from the first on, each so much above the one before. */
@@ -96,7 +96,7 @@ static void computes(uint64_t kind, uint64_t sort, uint64_t a, uint64_t b, uint6
     row(GEMTWEED_EQ, GEMTWEED_BIT, 5, 6, 0, 0);
     row(GEMTWEED_BAD, GEMTWEED_BIT, 7, 0, 0, 0);
     gemtweed_answer answer = fold_bad(NODES - 1);
-    check(answer.number == GEMTWEED_ACCEPTED && result[1 + 6 * (NODES - 1) + 2] == NODES + 1, "kind", kind);
+    check(answer.number == GEMTWEED_ACCEPTED && result[1 + GEMTWEED_ROW_WIDTH * (NODES - 1) + 2] == NODES + 1, "kind", kind);
 }
 
 static void kinds(void)
@@ -154,7 +154,7 @@ static void sorts(void)
 static void makes(uint64_t kind, uint64_t sort, uint64_t left, uint64_t right, uint64_t number)
 {
     enum { NODES = 5 };
-    const uint64_t *constants = result + 1 + 6 * NODES;
+    const uint64_t *constants = result + 1 + GEMTWEED_ROW_WIDTH * NODES;
     words[0] = NODES;
     words_len = 1;
     row(GEMTWEED_CONST, sort, left, 0, 0, 0);
@@ -223,11 +223,12 @@ static void limits(void)
     check(fold(0).number == GEMTWEED_REFUSED_OVER_LIMIT, "longest name", GEMTWEED_LONGEST_NAME);
 }
 
-#define CONST(sort, number) GEMTWEED_CONST, sort, number, 0, 0, 0
-#define STATE(sort) GEMTWEED_STATE, sort, 0, 0, 0, 0
-#define WITH_INIT(sort, init) GEMTWEED_STATE, sort, init, 1, 0, 0
-#define NEXT(sort, state, next) GEMTWEED_NEXT, sort, state, next, 0, 0
-#define BAD(condition) GEMTWEED_BAD, GEMTWEED_BIT, condition, 0, 0, 0
+#define ROW(kind, sort, a, b, c) kind, sort, a, b, c, 0
+#define CONST(sort, number) ROW(GEMTWEED_CONST, sort, number, 0, 0)
+#define STATE(sort) ROW(GEMTWEED_STATE, sort, 0, 0, 0)
+#define WITH_INIT(sort, init) ROW(GEMTWEED_STATE, sort, init, 1, 0)
+#define NEXT(sort, state, next) ROW(GEMTWEED_NEXT, sort, state, next, 0)
+#define BAD(condition) ROW(GEMTWEED_BAD, GEMTWEED_BIT, condition, 0, 0)
 #define ALL_MODES (GEMTWEED_MINIMISE + GEMTWEED_TERMINATE + GEMTWEED_ONE_QUERY)
 #define CASE(number, mode, ...) \
     {number, mode, sizeof(uint64_t[]){__VA_ARGS__} / sizeof(uint64_t), (const uint64_t[]){__VA_ARGS__}}
@@ -238,11 +239,12 @@ static const struct {
     const uint64_t *words;
 } cases[] = {
     CASE(GEMTWEED_ACCEPTED, ALL_MODES, 0, 0, 0, 0, 0, 0),
-    CASE(GEMTWEED_REFUSED_SHORT, ALL_MODES + 1, 0, 0, 0, 0, 0, 0),
+    CASE(GEMTWEED_ACCEPTED, GEMTWEED_HIGHEST_MODE, 0, 0, 0, 0, 0, 0),
+    CASE(GEMTWEED_REFUSED_SHORT, GEMTWEED_HIGHEST_MODE + 1, 0, 0, 0, 0, 0, 0),
     CASE(GEMTWEED_REFUSED_SHORT, 0, 0, 0, 0, 0, 0),
     CASE(GEMTWEED_REFUSED_OVER_LIMIT, 0, GEMTWEED_MOST_NODES + 1),
-    CASE(GEMTWEED_REFUSED_MALFORMED, 0, 1, GEMTWEED_BAD + 1, GEMTWEED_BIT, 0, 0, 0, 0, 0, 0, 0, 0, 0),
-    CASE(GEMTWEED_REFUSED_OPERAND_NOT_BEFORE, 0, 1, GEMTWEED_NOT, GEMTWEED_BIT, 0, 0, 0, 0, 0, 0, 0, 0, 0),
+    CASE(GEMTWEED_REFUSED_MALFORMED, 0, 1, ROW(GEMTWEED_BAD + 1, GEMTWEED_BIT, 0, 0, 0), 0, 0, 0, 0, 0),
+    CASE(GEMTWEED_REFUSED_OPERAND_NOT_BEFORE, 0, 1, ROW(GEMTWEED_NOT, GEMTWEED_BIT, 0, 0, 0), 0, 0, 0, 0, 0),
     CASE(GEMTWEED_REFUSED_SORTS, 0, 2, CONST(GEMTWEED_WORD, 5), BAD(0), 0, 1, 1, 0, 0, 0),
     CASE(GEMTWEED_REFUSED_ENTRY, 0, 1, CONST(GEMTWEED_WORD, 0), 0, 0, 1, 0, 0, 0),
     CASE(GEMTWEED_REFUSED_SECOND_SEQUENTIAL, 0,
@@ -272,7 +274,7 @@ static void refusals(void)
  * kept, and the verdict. */
 static void asks(uint64_t mode, uint64_t listed, uint64_t reply, unsigned asked, uint64_t kept, uint64_t verdict)
 {
-    static const size_t widths[] = {6, 2, 2, 1, 1, 1, 1};
+    static const size_t widths[] = {GEMTWEED_ROW_WIDTH, 2, 2, 1, 1, 1, 1};
     const uint64_t *at = result;
     uint64_t bads_kept = 0;
     unsigned seen = 0;
@@ -324,10 +326,10 @@ static void tallies(void)
     static const uint64_t input_taken[] = {2, STATE(GEMTWEED_BIT), BAD(0), 0, 1, 1, 0, 1, 1, 0};
     static const uint64_t write_passed[] = {
         8, STATE(GEMTWEED_MEMORY), STATE(GEMTWEED_WORD), CONST(GEMTWEED_WORD, 7),
-        GEMTWEED_WRITE, GEMTWEED_MEMORY, 0, 2, 2, 0,
-        GEMTWEED_WRITE, GEMTWEED_MEMORY, 3, 1, 2, 0,
-        GEMTWEED_READ, GEMTWEED_WORD, 4, 2, 0, 0,
-        GEMTWEED_EQ, GEMTWEED_BIT, 5, 1, 0, 0,
+        ROW(GEMTWEED_WRITE, GEMTWEED_MEMORY, 0, 2, 2),
+        ROW(GEMTWEED_WRITE, GEMTWEED_MEMORY, 3, 1, 2),
+        ROW(GEMTWEED_READ, GEMTWEED_WORD, 4, 2, 0),
+        ROW(GEMTWEED_EQ, GEMTWEED_BIT, 5, 1, 0),
         BAD(6), 0, 1, 7, 0, 0, 0,
     };
     words_len = 0;

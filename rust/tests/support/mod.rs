@@ -1,9 +1,10 @@
 // The program's text form: read into a call, and a call's outcome printed.
 
-use gemtweed::{Refusal, MOST_ENTRIES, MOST_INPUTS, MOST_NODES, MOST_REPLIES};
+#[path = "../../../oracle/src/house.rs"]
+mod house;
 
-// Result and scratch have this many words in the program.
-pub const ROOM: usize = 4096;
+use gemtweed::Refusal;
+use house::*;
 
 pub struct Call {
     pub mode: u64,
@@ -22,7 +23,7 @@ pub enum NoCall {
 pub fn read(text: &[u8]) -> Result<Call, NoCall> {
     let numbers = numbers(text).ok_or(NoCall::Text)?;
     let (mode, rest) = numbers.split_first().ok_or(NoCall::Text)?;
-    if *mode > 7 {
+    if *mode > HIGHEST_MODE {
         return Err(NoCall::Text);
     }
     let end = words_end(rest);
@@ -36,7 +37,7 @@ fn numbers(text: &[u8]) -> Option<Vec<u64>> {
         .filter(|token| !token.is_empty())
         .map(number)
         .collect::<Option<_>>()?;
-    (numbers.len() <= 4096).then_some(numbers)
+    (numbers.len() <= MOST_NUMBERS).then_some(numbers)
 }
 
 fn number(token: &[u8]) -> Option<u64> {
@@ -49,11 +50,9 @@ fn number(token: &[u8]) -> Option<u64> {
 // Where section 6 ends; all numbers where a section before is short or too long.
 fn words_end(numbers: &[u64]) -> usize {
     let mut at = 0;
-    let lists = [(1, MOST_ENTRIES), (1, MOST_ENTRIES), (1, MOST_ENTRIES)];
-    let others = [(1, MOST_INPUTS), (1, MOST_REPLIES)];
-    for (width, most) in [(6, MOST_NODES)].into_iter().chain(lists).chain(others) {
+    for (width, most) in [ROW_WIDTH, 1, 1, 1, 1, 1].into_iter().zip(LIMITS) {
         match numbers.get(at) {
-            Some(count) if *count <= most as u64 => at += 1 + width * *count as usize,
+            Some(count) if *count <= most => at += 1 + width * *count as usize,
             _ => return numbers.len(),
         }
     }
@@ -88,7 +87,7 @@ pub fn print(outcome: Result<&[u64], Refusal>) -> String {
 
 fn sections(mut rest: &[u64]) -> String {
     let mut text = String::new();
-    for width in [6, 2, 2, 1, 1, 1, 1, 4, 1] {
+    for width in RESULT_WIDTHS {
         let (section, after) = rest.split_at(1 + width * rest[0] as usize);
         let words: Vec<String> = section.iter().map(u64::to_string).collect();
         text += &words.join(" ");
@@ -100,8 +99,8 @@ fn sections(mut rest: &[u64]) -> String {
 
 // The call by the library, both buffers as large as the program's and full of other words before.
 pub fn fold(call: &Call) -> String {
-    let mut result = vec![7; ROOM];
-    let mut scratch = vec![9; ROOM];
+    let mut result = vec![7; PROGRAM_ROOM];
+    let mut scratch = vec![9; PROGRAM_ROOM];
     let outcome = gemtweed::optimize_model_impl(
         call.mode,
         &call.words,
