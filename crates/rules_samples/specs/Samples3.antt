@@ -1,4 +1,4 @@
--- Random tables and what the published Rust answered but for the departures, made by oracle/samples.py (oracle/README.md says how).
+-- Random tables and what the published Rust answered but for the departures, made by oracle/regenerate (oracle/README.md).
 -- Assumes nothing.
 use mathlib.Core.List.{List, [], _∷_}
 use Rattle.rules_samples.specs.Sample.{Sample, sample}
