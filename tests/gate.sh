@@ -17,7 +17,7 @@ script() { # FILE TEXT
 
 # The script of a part.
 file() { # PART
-    case $1 in laws | quotes) echo "$tree/tests/$1.py" ;; *) echo "$tree/tests/$1.sh" ;; esac
+    case $1 in constants | laws | quotes) echo "$tree/tests/$1.py" ;; *) echo "$tree/tests/$1.sh" ;; esac
 }
 
 # What a part does, once it has noted that it was run.
@@ -36,7 +36,7 @@ fresh() {
     for program in awk cat dirname env grep mkdir mktemp rm tail tee; do ln -s "$(command -v "$program")" "$bin/$program"; done
     for program in cc cargo python3; do script "$bin/$program" 'exit 1'; done
     script "$bin/rt" 'echo $1 >>'"'$work/ran'; . '$work'/rt."'$1'
-    for each in gate fmt quotes library wrapper; do does $each "echo $each as expected"; done
+    for each in gate fmt quotes constants library wrapper; do does $each "echo $each as expected"; done
     does laws '[ "$1" = target/bin/optimize_model ] && echo laws as expected'
     does edits '[ "$FROM_NOTHING" = 1 ] && echo edits as expected'
     does ci 'echo a crate; echo 3 passed, 0 failed'
@@ -80,7 +80,7 @@ fails() { # WHAT WORDS [NAME=VALUE]...
     report "$what" "$right"
 }
 
-every='ci edits fmt gate laws library quotes wrapper'
+every='ci constants edits fmt gate laws library quotes wrapper'
 fresh
 passes 'all parts pass' "$every"
 for part in $every; do
@@ -91,7 +91,7 @@ for part in $every; do
     does "$part" 'echo 3 passed, 0 failed; kill -9 $PPID'
     fails "who runs $part is killed" "$part (status '')"
 done
-for part in edits gate laws library quotes wrapper; do
+for part in constants edits gate laws library quotes wrapper; do
     rm "$(file "$part")"
     fails "there is no script of $part" "$part (status '127')"
 done
@@ -123,7 +123,7 @@ for tool in cc cargo; do
     rm "$bin/$tool"
     fails "no $tool, and the skip is not asked for" "'$tool'" GEMTWEED_SKIP_LIBRARY=0
     rm "$bin/$tool"
-    passes "no $tool, and the skip is asked for" 'ci edits fmt gate laws quotes wrapper' GEMTWEED_SKIP_LIBRARY=1
+    passes "no $tool, and the skip is asked for" 'ci constants edits fmt gate laws quotes wrapper' GEMTWEED_SKIP_LIBRARY=1
 done
 rm "$bin/python3"
 fails 'no python3' "'python3'"
