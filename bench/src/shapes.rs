@@ -1,7 +1,7 @@
 // The measured models: seven shapes, each of exactly the number of nodes asked for, a power of two from 64 on.
 
 use crate::house::*;
-use crate::table::{Row, Table};
+use crate::table::Table;
 
 pub const SHAPES: [(&str, fn(u64) -> Table); 7] = [
     ("deep chain", deep_chain),
@@ -15,8 +15,7 @@ pub const SHAPES: [(&str, fn(u64) -> Table); 7] = [
 
 impl Table {
     fn add(&mut self, kind: u64, sort: u64, words: [u64; 3]) -> u64 {
-        self.nodes.push(Row { kind, sort, words, name: 0 });
-        self.nodes.len() as u64 - 1
+        self.push(kind, sort, words, 0)
     }
 
     fn constant(&mut self, number: u64) -> u64 {
@@ -29,9 +28,7 @@ impl Table {
     }
 
     fn input(&mut self) -> u64 {
-        let node = self.add(INPUT, WORD, [0, 0, 0]);
-        self.nodes[node as usize].name = 1;
-        node
+        self.push(INPUT, WORD, [0, 0, 0], 1)
     }
 
     // A Bad on whether one word is below another, in section 3.

@@ -219,8 +219,7 @@ impl Draft<'_> {
     }
 
     fn push(&mut self, kind: u64, sort: u64, words: [u64; 3], name: u64) -> u64 {
-        self.table.nodes.push(Row { kind, sort, words, name });
-        self.table.nodes.len() as u64 - 1
+        self.table.push(kind, sort, words, name)
     }
 
     fn draw_names(&mut self) {

@@ -4,7 +4,7 @@ use crate::answer::Answer;
 use crate::fold::Sections;
 use crate::house::*;
 use crate::mix::Case;
-use crate::table::{tokens, Refusal, Table};
+use crate::table::{tokens, Refusal, Row, Table};
 use std::collections::BTreeSet;
 
 pub type Feature = (&'static str, u64, u64, u64);
@@ -130,17 +130,17 @@ fn of_rows(table: &Table) -> Features {
 
 // And and Or as they are left, with what stands on their two sides.
 fn of_bits(sections: &Sections) -> Features {
-    let rows: Vec<&[u64]> = sections[0].chunks(ROW_WIDTH).collect();
+    let rows: Vec<Row> = sections[0].as_chunks().0.iter().map(Row::of).collect();
     let constants: Vec<&[u64]> = sections[1].chunks(2).collect();
     let side = |operand: u64, sort: u64| match rows.get(operand as usize) {
-        Some(row) if row[0] != CONST => 0,
-        Some(row) => side_of(row[2], sort),
+        Some(row) if row.kind != CONST => 0,
+        Some(row) => side_of(row.words[0], sort),
         None => side_of(constants[operand as usize - rows.len()][1], sort),
     };
-    let bits = rows.iter().filter(|row| matches!(row[0], AND | OR));
+    let bits = rows.iter().filter(|row| matches!(row.kind, AND | OR));
     bits.map(|row| {
-        let sides = 10 * side(row[2], row[1]) + side(row[3], row[1]);
-        ("bits", row[0], row[1].min(BYTE), sides)
+        let sides = 10 * side(row.words[0], row.sort) + side(row.words[1], row.sort);
+        ("bits", row.kind, row.sort.min(BYTE), sides)
     })
     .collect()
 }

@@ -4,7 +4,7 @@ use crate::departures::HIGHEST_MODE_OF_THE_RUST;
 use crate::graph::{build, constant, rewritten};
 use crate::house::MEMORY;
 use crate::making;
-use crate::table::{fits, refusal, Refusal, Table};
+use crate::table::{fits, refusal, Refusal, Row, Table};
 use reference::unicorn::optimize::{fold_model, last_folded, Folded};
 use reference::unicorn::smt_solver::{SMTSolution, SMTSolver};
 use reference::unicorn::{Model, Node, NodeRef};
@@ -139,8 +139,8 @@ fn sections(table: &Table, run: &Run, model: &Model, inputs: Vec<u64>) -> Sectio
 
     let mut sections = Sections::default();
     for (node, row) in run.nodes.iter().zip(&table.nodes) {
-        sections[0].extend(rewritten(&node.borrow(), number));
-        sections[0].push(row.name);
+        let [kind, sort, a, b, c] = rewritten(&node.borrow(), number);
+        sections[0].extend(Row { kind, sort, words: [a, b, c], ..row.clone() }.all_words());
     }
     for node in constants {
         let [_, sort, imm, ..] = rewritten(&node.borrow(), number);

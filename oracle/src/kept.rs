@@ -7,7 +7,7 @@ use judge::features::{features, Feature, Features};
 use judge::house::{BYTE, CONST, WORD};
 use judge::mix;
 use judge::random::Random;
-use judge::table::{Row, Table};
+use judge::table::Table;
 use std::collections::{HashMap, HashSet};
 use std::io::{self, Write};
 
@@ -49,11 +49,12 @@ enum Text {
 impl Text {
     // The numbers on one line. What is too wide is a byte of 256.
     fn of(self, example: &str) -> String {
-        let row = |sort, number| Row { kind: CONST, sort, words: [number, 0, 0], name: 0 };
         let numbers: Vec<String> = match self {
             Text::Example => example.split_ascii_whitespace().map(str::to_string).collect(),
             Text::TooWide => {
-                let table = Table { nodes: vec![row(WORD, 5), row(BYTE, 256)], ..Table::default() };
+                let mut table = Table::default();
+                table.push(CONST, WORD, [5, 0, 0], 0);
+                table.push(CONST, BYTE, [256, 0, 0], 0);
                 table.numbers().iter().map(u64::to_string).collect()
             }
             Text::Nothing => vec![],

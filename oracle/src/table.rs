@@ -38,12 +38,12 @@ pub fn fits(number: u64, sort: u64) -> bool {
 }
 
 impl Row {
-    fn of(words: &[u64; ROW_WIDTH]) -> Row {
+    pub fn of(words: &[u64; ROW_WIDTH]) -> Row {
         let [kind, sort, a, b, c, name] = *words;
         Row { kind, sort, words: [a, b, c], name }
     }
 
-    fn all_words(&self) -> [u64; ROW_WIDTH] {
+    pub fn all_words(&self) -> [u64; ROW_WIDTH] {
         let [a, b, c] = self.words;
         [self.kind, self.sort, a, b, c, self.name]
     }
@@ -85,6 +85,12 @@ impl Table {
             replies: section(&mut rest, 6, MOST_REPLIES, 1)?,
             names: names(rest)?,
         })
+    }
+
+    // A node after the others; its number.
+    pub fn push(&mut self, kind: u64, sort: u64, words: [u64; 3], name: u64) -> u64 {
+        self.nodes.push(Row { kind, sort, words, name });
+        self.nodes.len() as u64 - 1
     }
 
     pub fn numbers(&self) -> Vec<u64> {

@@ -3,7 +3,7 @@
 use crate::damages::Labels;
 use crate::house::*;
 use crate::random::Random;
-use crate::table::{Row, Table};
+use crate::table::Table;
 
 // Operands at which an operator does something of its own.
 const OPERANDS: [u64; 12] =
@@ -47,11 +47,6 @@ fn make_mild(random: &mut Random, table: &mut Table) -> &'static str {
     "mild"
 }
 
-fn push(table: &mut Table, kind: u64, sort: u64, words: [u64; 3], name: u64) -> u64 {
-    table.nodes.push(Row { kind, sort, words, name });
-    table.nodes.len() as u64 - 1
-}
-
 // A name of its own, for some node that may have one.
 fn lengthen_name(random: &mut Random, table: &mut Table) -> &'static str {
     let longest = LONGEST_NAME as usize;
@@ -74,28 +69,28 @@ fn add_chain(random: &mut Random, table: &mut Table) -> &'static str {
     table.names.push(b"memory-dump".iter().map(|byte| *byte as u64).collect());
     let name = table.names.len() as u64;
     let kind = random.pick(&[STATE, INPUT]);
-    let mut memory = push(table, kind, MEMORY, [0; 3], name);
-    let open = push(table, INPUT, WORD, [0; 3], name);
+    let mut memory = table.push(kind, MEMORY, [0; 3], name);
+    let open = table.push(INPUT, WORD, [0; 3], name);
     let mut words = vec![open];
     for number in 0..3 {
-        words.push(push(table, CONST, WORD, [number, 0, 0], 0));
+        words.push(table.push(CONST, WORD, [number, 0, 0], 0));
     }
     let sum = [random.pick(&words), random.pick(&words), 0];
-    words.push(push(table, ADD, WORD, sum, 0));
+    words.push(table.push(ADD, WORD, sum, 0));
     for _ in 0..1 + random.below(12) {
         let before = memory;
         let write = [memory, random.pick(&words), random.pick(&words)];
-        memory = push(table, WRITE, MEMORY, write, 0);
+        memory = table.push(WRITE, MEMORY, write, 0);
         if random.chance(1, 6) {
             let test = [random.pick(&words), random.pick(&words), 0];
-            let condition = push(table, ULT, BIT, test, 0);
-            memory = push(table, ITE, MEMORY, [condition, memory, before], 0);
+            let condition = table.push(ULT, BIT, test, 0);
+            memory = table.push(ITE, MEMORY, [condition, memory, before], 0);
         }
     }
     for _ in 0..1 + random.below(3) {
-        let read = push(table, READ, WORD, [memory, random.pick(&words), 0], 0);
-        let condition = push(table, EQ, BIT, [read, random.pick(&words), 0], 0);
-        let bad = push(table, BAD, BIT, [condition, 0, 0], 0);
+        let read = table.push(READ, WORD, [memory, random.pick(&words), 0], 0);
+        let condition = table.push(EQ, BIT, [read, random.pick(&words), 0], 0);
+        let bad = table.push(BAD, BIT, [condition, 0, 0], 0);
         table.initial_bads.push(bad);
     }
     "a chain of writes"
@@ -103,20 +98,20 @@ fn add_chain(random: &mut Random, table: &mut Table) -> &'static str {
 
 // A State that is dropped, over an init that would fold and is visited, if at all, from elsewhere.
 fn add_foldable_init(random: &mut Random, table: &mut Table) -> &'static str {
-    let left = push(table, CONST, WORD, [random.below(3), 0, 0], 0);
-    let right = push(table, CONST, WORD, [random.below(3), 0, 0], 0);
+    let left = table.push(CONST, WORD, [random.below(3), 0, 0], 0);
+    let right = table.push(CONST, WORD, [random.below(3), 0, 0], 0);
     let kind = random.pick(&[ADD, SUB, MUL, DIVU, DIV, REM, SLL, SRL, AND, OR]);
-    let init = push(table, kind, WORD, [left, right, 0], 0);
-    let state = push(table, STATE, WORD, [init, 1, 0], 0);
-    let next = push(table, NEXT, WORD, [state, state, 0], 0);
+    let init = table.push(kind, WORD, [left, right, 0], 0);
+    let state = table.push(STATE, WORD, [init, 1, 0], 0);
+    let next = table.push(NEXT, WORD, [state, state, 0], 0);
     table.sequentials.push(next);
     let operand = random.pick(&[left, right, init, state]);
-    let condition = push(table, EQ, BIT, [state, operand, 0], 0);
-    let bad = push(table, BAD, BIT, [condition, 0, 0], 0);
+    let condition = table.push(EQ, BIT, [state, operand, 0], 0);
+    let bad = table.push(BAD, BIT, [condition, 0, 0], 0);
     table.sequential_bads.push(bad);
     if random.chance(1, 2) {
-        let condition = push(table, ULT, BIT, [init, state, 0], 0);
-        let bad = push(table, BAD, BIT, [condition, 0, 0], 0);
+        let condition = table.push(ULT, BIT, [init, state, 0], 0);
+        let bad = table.push(BAD, BIT, [condition, 0, 0], 0);
         table.initial_bads.push(bad);
     }
     "a dropped State over an init that would fold"
@@ -124,13 +119,13 @@ fn add_foldable_init(random: &mut Random, table: &mut Table) -> &'static str {
 
 // An operator on words over two Consts, often where it does something of its own.
 fn add_operator(random: &mut Random, table: &mut Table) -> &'static str {
-    let left = push(table, CONST, WORD, [random.pick(&OPERANDS), 0, 0], 0);
-    let right = push(table, CONST, WORD, [random.pick(&OPERANDS), 0, 0], 0);
+    let left = table.push(CONST, WORD, [random.pick(&OPERANDS), 0, 0], 0);
+    let right = table.push(CONST, WORD, [random.pick(&OPERANDS), 0, 0], 0);
     let kind = random.pick(&[ADD, SUB, MUL, DIVU, DIV, DIV, REM, SLL, SRL, AND, OR]);
-    let result = push(table, kind, WORD, [left, right, 0], 0);
+    let result = table.push(kind, WORD, [left, right, 0], 0);
     let kind = random.pick(&[EQ, ULT]);
-    let condition = push(table, kind, BIT, [result, left, 0], 0);
-    let bad = push(table, BAD, BIT, [condition, 0, 0], 0);
+    let condition = table.push(kind, BIT, [result, left, 0], 0);
+    let bad = table.push(BAD, BIT, [condition, 0, 0], 0);
     table.initial_bads.push(bad);
     "an operator at its limits"
 }
