@@ -37,9 +37,9 @@ use Rattle.optimize.specs.Bounds.{countOf}
 use Rattle.rules.specs.Sections.{wordOf}
 use Rattle.optimize.specs.View.{tableOf, waysIn, rowsOf, markOf, questionOf, view, outcomeOf, Meets}
 use Rattle.optimize.specs.Process.{askedOf, visitOf}
-use Rattle.optimize.specs.Laid.{Laid}
+use Rattle.optimize.specs.Laid.{Laid, Visits}
 use Rattle.optimize.specs.Lists.{entriesOf}
-use Rattle.optimize.specs.Bads.{Spare, judgement, retainedOf, judgedOf, replyRule, badRule, retainRule, listRule, Retains, KeptIf}
+use Rattle.optimize.specs.Bads.{Spare, judgement, retainedOf, judgedOf, replyRule, badRule, visitedRule, retainRule, listRule, Retains, KeptIf}
 use Rattle.optimize.proofs.Views.{row-below, firsts-length}
 use Rattle.optimize.proofs.Steps.{table-length}
 use Rattle.optimize.proofs.Walks.{came-done}
@@ -119,24 +119,30 @@ module _ (h : List Held) (g inputs replies R S : List ℕ) (w : Walk) (ways : Wa
           let q : _≡_ {A = Out (St × ℕ)} (refused (refusalOf v)) (ask (ways .replyCount) σ 4 c 0 []) = sym (ap (λ z. askedOf h g inputs replies z R T) d) ∙ i in
           ap (λ (u : Out (St × ℕ)). u >>= λ p. replyRule g ways how place (p .0) (p .1)) q ∙ asks o t
 
--- ---- a bad visited, then judged
-module _ (g inputs replies : List ℕ) (ways : Ways) (how : Judging) (place b : ℕ) (σ : St) (r : Visited) (R S : List ℕ) (m : Meets g inputs replies r R S (visitOf g ways (b + 1) σ b)) where
-  abbrev judged : Out (St × ℕ) → Out (St × Judgement)
-  judged o = o >>= λ p. badRule g ways how place (p .0) (p .0 .rows b .a)
-
-  top : visitOf g ways (b + 1) σ b ≡ visitTop (tableOf g) ways σ b
-  top = ap (λ f. visit (tableOf g) ways f σ b) (add-one b)
-
-  pub retain-done : (w : Walk) (a : ℕ) → r ≡ Visited.Done w a → b < countOf g → (c : ℕ) → c ≡ wordOf R b 2
-      → badRule g ways how place (view (m .0) g inputs replies R S w) c ≡ retainRule g ways how place b σ
-  unfolding view
+-- ---- a bad judged by what its visit came to
+module _ (h : List Held) (g inputs replies : List ℕ) (ways : Ways) (how : Judging) (place b : ℕ) (v : Visited) (R S : List ℕ) where
+  pub retain-done : (w : Walk) (a : ℕ) → v ≡ Visited.Done w a → b < countOf g → (c : ℕ) → c ≡ wordOf R b 2
+      → badRule g ways how place (view h g inputs replies R S w) c ≡ visitedRule g ways how place b (outcomeOf h g inputs replies v R S)
+  unfolding view outcomeOf
   retain-done w a e l c d =
-      ap (badRule g ways how place (view (m .0) g inputs replies R S w)) (d ∙ sym (ap (λ (nd : Node). nd .a) (row-below (countOf g) (w .made) R b l)))
-      ∙ ap judged (sym (came-done g inputs replies R S r (visitOf g ways (b + 1) σ b) m w a e) ∙ top)
+      ap (badRule g ways how place (view h g inputs replies R S w)) (d ∙ sym (ap (λ (nd : Node). nd .a) (row-below (countOf g) (w .made) R b l)))
+      ∙ sym (ap (λ (z : Visited). visitedRule g ways how place b (outcomeOf h g inputs replies z R S)) e)
 
-  pub retain-refused : (z : Refusal) → r ≡ Visited.Refused z → refused (refusalOf z) ≡ retainRule g ways how place b σ
+  pub retain-refused : (z : Refusal) → v ≡ Visited.Refused z → refused (refusalOf z) ≡ visitedRule g ways how place b (outcomeOf h g inputs replies v R S)
   unfolding outcomeOf
-  retain-refused z e = ap judged (sym (ap (λ v. outcomeOf (m .0) g inputs replies v R S) e) ∙ m .1 ∙ top)
+  retain-refused z e = sym (ap (λ (y : Visited). visitedRule g ways how place b (outcomeOf h g inputs replies y R S)) e)
+
+-- visited and then judged, it is retained as the rules say
+pub retains : (g dumps inputs replies : List ℕ) (mode : Mode) (how : Judging) (place b : ℕ) (R S Q T U : List ℕ) (w : Walk) (v : Visited) (r : Retained)
+    → Visits g inputs replies R S w v Q T (b + 1) (λ f σ. visitOf g (waysIn dumps mode replies) f σ b)
+    → ((h : List Held) → retainedOf h g inputs replies r Q U ≡ visitedRule g (waysIn dumps mode replies) how place b (outcomeOf h g inputs replies v Q T))
+    → Retains g inputs replies R S w r Q U (retainRule g (waysIn dumps mode replies) how place b)
+retains g dumps inputs replies mode how place b R S Q T U w v r visits judges =
+    let ways : Ways = waysIn dumps mode replies in
+    λ h. let m = visits h (b + 1) (omega arith) in (
+      m .0,
+      judges (m .0) ∙ ap (visitedRule g ways how place b) (m .1 ∙ ap (λ f. visit (tableOf g) ways f (view h g inputs replies R S w) b) (add-one b)),
+    )
 
 -- room for more questions stays through a visit
 pub spare-visited : (g dumps inputs replies : List ℕ) (mode : Mode) (reserve : ℕ) (R S Q T : List ℕ) (w w′ : Walk) (k a c : ℕ) (r : Visited) (l : Laid g dumps inputs replies mode reserve R S w) → k < countOf g

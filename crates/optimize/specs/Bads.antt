@@ -1,6 +1,7 @@
 -- Judging a list of bads: the rules' steps in the code's order, and what its answers are in the rules' terms.
 --     Spare                 room for so many more questions than the nodes may ask, and for the words in reserve
---     retainRule, listRule  the rules' judgement of a bad, of a list           retainedOf, judgedOf   the outcomes
+--     visitedRule           the rules' judgement of a bad by what its visit came to
+--     retainRule, listRule  their judgement of a bad, of a list           retainedOf, judgedOf   the outcomes
 --     BadsLeft              what a judged list leaves for what comes next
 -- Assumes nothing.
 use Prim.Native.Nat.{ℕ, _+_, _*_, _<_, _≤_}
@@ -44,8 +45,12 @@ module _ (g : List ℕ) (ways : Ways) (how : Judging) (place : ℕ) where
   abbrev pub badRule : St → ℕ → Out (St × Judgement)
   badRule σ c = judgeBad (tableOf g) ways (how .solver) (how .terminate) (how .section) place σ c (constOf (σ .rows) c)
 
+  -- by what the bad's visit came to
+  abbrev pub visitedRule : ℕ → Out (St × ℕ) → Out (St × Judgement)
+  visitedRule b o = o >>= λ p. badRule (p .0) (p .0 .rows b .a)
+
   abbrev pub retainRule : ℕ → St → Out (St × Judgement)
-  retainRule b σ = visitTop (tableOf g) ways σ b >>= λ p. badRule (p .0) (p .0 .rows b .a)
+  retainRule b σ = visitedRule b (visitTop (tableOf g) ways σ b)
 
   abbrev pub listRule : St → List ℕ → Out Bads
   listRule σ bs = whole.judgeBads (tableOf g) ways (how .solver) (how .terminate) (how .section) place σ bs

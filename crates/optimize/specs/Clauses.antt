@@ -33,13 +33,13 @@ use Rattle.optimize.specs.declared.bads.Judged.{Judged}
 use Rattle.optimize.specs.declared.last_question.Answered.{Answered}
 use Rattle.optimize.specs.declared.result.Kept.{Kept}
 use Rattle.optimize.specs.declared.result.Sizes.{Sizes}
-use Rattle.optimize.specs.Bounds.{countOf}
+use Rattle.optimize.specs.Bounds.{countOf, HasAsks}
 use Rattle.optimize.specs.View.{nodeOf, markBy, view, outcomeOf, tableOf, waysIn, Meets}
 use Rattle.optimize.specs.Counters.{walkIn, answerIn}
 use Rattle.optimize.specs.Process.{askedOf, askedBy, solvedOf, settleThen, takeOf, visitOf}
 use Rattle.optimize.specs.CallWords.{inputsIn, repliesIn, modeIn, waysBy, LaidBy, VisitsBy}
 use Rattle.optimize.specs.Lists.{entriesOf, joined, WalksTo, LaidAfter}
-use Rattle.optimize.specs.Bads.{retainedOf, judgedOf, replyRule, badRule, retainRule, listRule, Retains, BadsLeft}
+use Rattle.optimize.specs.Bads.{retainedOf, judgedOf, replyRule, badRule, visitedRule, listRule, BadsLeft}
 use Rattle.optimize.specs.LastQuestion.{answeredOf, verdictThen, forgotten}
 use Rattle.optimize.specs.ResultView.{untouched, foldedIn, ModelOf, Wrote, Handed}
 use Rattle.optimize.specs.Runs.{modelIn, Runnable, Underway, Ends, Runs}
@@ -165,17 +165,6 @@ module _ (given dumps call result scratch : Lent) where
   StaysLaid at r =
       LaidAfter (was given) (was dumps) (inputsIn (was given) (was call)) (repliesIn (was given) (was call)) (modeIn (was call)) 0 r (ends result) (take at (ends scratch))
 
-  -- of a bad, which is then judged
-  abbrev pub RetainsBad : Judging → ℕ → Walk → Retained → ℕ → Type 0
-  RetainsBad how place w r bad =
-      Retains (was given) (inputsIn (was given) (was call)) (repliesIn (was given) (was call)) (was result) (was scratch) w r (ends result) (ends scratch)
-      (retainRule (was given) (waysBy (was given) (was dumps) (was call)) how place bad)
-
-  abbrev pub RetainsIn : ℕ → Judging → ℕ → Walk → Retained → ℕ → Type 0
-  RetainsIn at how place w r bad =
-      Retains (was given) (inputsIn (was given) (was call)) (repliesIn (was given) (was call)) (was result) (take at (was scratch)) w r (ends result) (take at (ends scratch))
-      (retainRule (was given) (waysBy (was given) (was dumps) (was call)) how place bad)
-
   -- of a list of bads: what the rules' list leaves, for some states that took an input and some bads dropped
   abbrev pub JudgesBads : Lent → ℕ → ℕ → Judging → Walk → Judged → Type 0
   JudgesBads bads at list how w r =
@@ -199,6 +188,25 @@ JudgesBad given replies result scratch how place w condition r =
     (h : List Held) (inputs dumps : List ℕ) (mode : Mode)
     → retainedOf h (was given) inputs (was replies) r (was result) (ends scratch)
     ≡ badRule (was given) (waysIn dumps mode (was replies)) how place (view h (was given) inputs (was replies) (was result) (was scratch) w) condition
+
+-- room for the question about a bad, after its visit
+abbrev pub MayAsk : List ℕ → List ℕ → Visited → Type 0
+MayAsk g S v = (w : Walk) (a : ℕ) → v ≡ Visited.Done w a → (w .made ≤ countOf g) × HasAsks g S (w .asked) 1
+
+-- a bad by what its visit came to, as the words of a call say
+module _ (given call result scratch : Lent) (how : Judging) (place bad : ℕ) (v : Visited) (r : Retained) where
+  abbrev pub JudgedBy : List ℕ → List ℕ → Type 0
+  JudgedBy S T =
+      (h : List Held) (dumps : List ℕ)
+      → retainedOf h (was given) (inputsIn (was given) (was call)) (repliesIn (was given) (was call)) r (was result) T
+      ≡ visitedRule (was given) (waysBy (was given) dumps (was call)) how place bad (outcomeOf h (was given) (inputsIn (was given) (was call)) (repliesIn (was given) (was call)) v (was result) S)
+
+  abbrev pub RetainsBad : Type 0
+  RetainsBad = JudgedBy (was scratch) (ends scratch)
+
+  -- where the walk has the words of scratch before a place
+  abbrev pub RetainsIn : ℕ → Type 0
+  RetainsIn at = JudgedBy (take at (was scratch)) (take at (ends scratch))
 
 -- the last question about the bads kept from `list` on
 abbrev pub AnswersLast : Lent → List ℕ → Lent → ℕ → ℕ → ℕ → Walk → Answered → Type 0

@@ -8,9 +8,9 @@ use crate::call_words::Dumps;
 use crate::call_words::replies_in;
 use crate::fold::Constant;
 use crate::lists::put_entry;
+use crate::lists::visit_in;
 use crate::smt_solver::Asked;
 use crate::smt_solver::ask_at;
-use crate::visit::visit_entry;
 use crate::walk::Visited;
 use crate::walk::Walk;
 use tables::refusal::Refusal;
@@ -20,11 +20,11 @@ ghost use lib.ListN.{length, take, drop};
 ghost use Rattle.rules.specs.Lists.{All};
 ghost use Rattle.rules.specs.Legal.{BadEntry};
 ghost use Rattle.rules.specs.Fold.{isConst};
-ghost use Rattle.optimize.specs.Bounds.{countOf, Counted, HasAsks, HasRoom};
+ghost use Rattle.optimize.specs.Bounds.{countOf, Counted, HasAsks, HasRoom, CountedAt};
 ghost use Rattle.optimize.specs.View.{tableOf, constantIs};
 ghost use Rattle.optimize.specs.CallWords.{LaidBy};
 ghost use Rattle.optimize.specs.Bads.{Spare, KeptIf};
-ghost use Rattle.optimize.specs.Clauses.{JudgesBad, JudgesBads, LeavesBads, RepliesBy, RetainsBad, RetainsIn};
+ghost use Rattle.optimize.specs.Clauses.{JudgesBad, JudgesBads, LeavesBads, RepliesBy, RetainsBad, RetainsIn, MayAsk};
 
 // How a list of bads is judged: whether the solver is asked, whether a reachable bad is refused, and the list's section.
 pub(crate) struct Judging {
@@ -106,23 +106,22 @@ fn judge_bad(
     }
 }
 
-// Visits a bad, and judges it by its rewritten condition.
+// Judges a bad by what its visit left: by its rewritten condition, unless the visit was refused.
 fn should_retain_bad_state(
     given: &[u64],
-    result: &mut [u64],
-    scratch: &mut [u64],
-    dumps: &Dumps,
     call: &CallWords,
+    result: &[u64],
+    scratch: &mut [u64],
     how: Judging,
     place: usize,
-    walk: Walk,
     bad: usize,
+    visited: Visited,
 ) -> Retained
-    requires { ⌜ LaidBy (now given) (now dumps) (now call) (now result) (now scratch) walk ⌝ }
-    requires { ⌜ (bad < countOf (now given)) × Spare 0 (now given) (now scratch) walk 1 ⌝ }
-    ensures { λ r. ⌜ RetainsBad given dumps call result scratch how place walk r bad ⌝ }
+    requires { ⌜ CountedAt (now given) bad ⌝ }
+    requires { ⌜ HasRoom (now given) (now result) ⌝ }
+    requires { ⌜ MayAsk (now given) (now scratch) visited ⌝ }
+    ensures { λ r. ⌜ RetainsBad given call result scratch how place bad visited r ⌝ }
 {
-    let visited = visit_entry(given, result, scratch, dumps, call, walk, bad);
     match visited {
         Visited::Done(after, _) => {
             let condition = operand(result, bad, 2);
@@ -144,31 +143,30 @@ fn should_retain_bad_state(
 // The same, where the walk has the words of scratch before `at`: the lists after them stay.
 fn retain_in(
     given: &[u64],
-    result: &mut [u64],
-    scratch: &mut [u64],
-    dumps: &Dumps,
     call: &CallWords,
+    result: &[u64],
+    scratch: &mut [u64],
     how: Judging,
     at: usize,
     place: usize,
-    walk: Walk,
     bad: usize,
+    visited: Visited,
 ) -> Retained
-    requires { ⌜ LaidBy (now given) (now dumps) (now call) (now result) (take at (now scratch)) walk ⌝ }
-    requires { ⌜ (at ≤ length (now scratch)) × (bad < countOf (now given)) × Spare 0 (now given) (take at (now scratch)) walk 1 ⌝ }
-    ensures { λ r. ⌜ RetainsIn given dumps call result scratch at how place walk r bad ⌝ }
+    requires { ⌜ CountedAt (now given) bad ⌝ }
+    requires { ⌜ HasRoom (now given) (now result) × (at ≤ length (now scratch)) ⌝ }
+    requires { ⌜ MayAsk (now given) (take at (now scratch)) visited ⌝ }
+    ensures { λ r. ⌜ RetainsIn given call result scratch how place bad visited r at ⌝ }
     ensures { λ _. ⌜ drop at (now (scratch .exit)) ≡ drop at (now (scratch .entry)) ⌝ }
 {
     should_retain_bad_state(
         given,
+        call,
         result,
         &mut scratch[0..at],
-        dumps,
-        call,
         how,
         place,
-        walk,
         bad,
+        visited,
     )
 }
 
@@ -208,7 +206,8 @@ pub(crate) fn judge_bads(
     let mut i = 0;
     while i < bads.len() {
         let bad = number(bads[i]);
-        let retained = retain_in(given, result, scratch, dumps, call, how, at, i, walk, bad);
+        let visited = visit_in(given, result, scratch, dumps, call, at, walk, bad);
+        let retained = retain_in(given, call, result, scratch, how, at, i, bad, visited);
         match retained {
             Retained::Done(after, stays) => {
                 kept = put_if(scratch, list, kept, wide(bad), stays);

@@ -14,8 +14,8 @@ use Rattle.optimize.specs.View.{tableOf, view}
 use Rattle.optimize.specs.Laid.{Laid}
 use Rattle.optimize.specs.Lists.{entriesOf}
 use Rattle.optimize.specs.Bads.{Spare, listRule}
-use Rattle.optimize.proofs.Entries.{all-at}
-use Rattle.optimize.proofs.BadLaws.{before, list-start, bads-on, bads-stop, bads-end, bads-still, bads-still-1, bad-inside, laid-retained, spare-retained, spare-less, never-refused, laid-end, few-end, spare-end, take-front}
+use Rattle.optimize.proofs.Entries.{all-at, laid-visited}
+use Rattle.optimize.proofs.BadLaws.{before, list-start, bads-on, bads-stop, bads-end, bads-still, bads-still-1, bad-inside, laid-retained, spare-retained, spare-less, never-refused, laid-end, few-end, spare-end, take-front, retains, spare-visited}
 use Rattle.optimize.specs.CallWords.{inputsIn, repliesIn, modeIn, waysBy}
 use Rattle.optimize.proofs.bads.judge_bads.Statement.{statement}
 use Rattle.optimize.proofs.bads.judge_bads.Tie as tie
@@ -40,12 +40,29 @@ shared-slice-read-number c = search needs
 number-requires : tie.Need-number-requires Inv-loop μ-loop
 number-requires c κs = search needs
 
-retain-in-requires : tie.Need-retain-in-requires Inv-loop μ-loop
-retain-in-requires c κs =
+visit-in-requires : tie.Need-visit-in-requires Inv-loop μ-loop
+visit-in-requires c κs =
     let at-number = c .before .before in
     let at-loop = at-number .before .before .before in
     let start = at-loop .before .before .before .before .before in
-    (at-loop .loop .inv .4, ((omega (arith, start .pre .1 .1 .0, start .pre .1 .1 .1, at-loop .loop .inv .3)), bad-inside _ _ (subst (BadEntry (tableOf (start .args .given .now))) (sym (at-number .number .ensures)) (all-at (BadEntry (tableOf (start .args .given .now))) (start .args .bads .now) (start .pre .1 .0 .0) (at-loop .loop .i) (omega arith))), (spare-less 0 (start .args .given .now) (take (start .args .at) (at-loop .loop .scratch)) (at-loop .loop .walk) (length (start .args .bads .now) - (at-loop .loop .i) + 0) 1 (omega arith) (at-loop .loop .inv .5 0 (spare-less 0 (start .args .given .now) (take (start .args .at) (start .args .scratch .now)) (start .args .walk) (length (start .args .bads .now)) (length (start .args .bads .now) + 0) (omega arith) (start .pre .1 .0 .1))))))
+    ((omega (arith, start .pre .1 .1 .0, start .pre .1 .1 .1, at-loop .loop .inv .3), bad-inside _ _ (subst (BadEntry (tableOf (start .args .given .now))) (sym (at-number .number .ensures)) (all-at (BadEntry (tableOf (start .args .given .now))) (start .args .bads .now) (start .pre .1 .0 .0) (at-loop .loop .i) (omega arith)))), at-loop .loop .inv .4)
+
+retain-in-requires : tie.Need-retain-in-requires Inv-loop μ-loop
+retain-in-requires c κs =
+    let at-visit-in = c .before .before .before .before .before .before in
+    let at-number = at-visit-in .before .before .before in
+    let at-loop = at-number .before .before .before in
+    let start = at-loop .before .before .before .before .before in
+    let inside = bad-inside _ _ (subst (BadEntry (tableOf (start .args .given .now))) (sym (at-number .number .ensures)) (all-at (BadEntry (tableOf (start .args .given .now))) (start .args .bads .now) (start .pre .1 .0 .0) (at-loop .loop .i) (omega arith))) in
+    let laid = at-loop .loop .inv .4 in
+    let visits = at-visit-in .visit-in .ensures .0 in (
+      (omega (arith, laid .whole), laid .small, inside),
+      (
+        (omega (arith, laid .room, at-visit-in .visit-in .kept .1 .0), omega (arith, start .pre .1 .1 .0, start .pre .1 .1 .1, at-loop .loop .inv .3, at-visit-in .visit-in .kept .1 .1 .0)),
+        λ w a e. let after = laid-visited _ _ _ _ _ _ _ _ _ _ _ w _ a _ laid inside visits e (at-visit-in .visit-in .kept .1 .0) (length-take-le (start .args .at) _ (omega (arith, start .pre .1 .1 .0, start .pre .1 .1 .1, at-loop .loop .inv .3, at-visit-in .visit-in .kept .1 .1 .0)) ∙ sym (length-take-le (start .args .at) _ (omega (arith, start .pre .1 .1 .0, start .pre .1 .1 .1, at-loop .loop .inv .3)))) in
+            (omega (arith, after .few), omega (arith, spare-visited _ _ _ _ _ _ _ _ _ _ _ w _ a 1 _ laid inside visits e (length-take-le (start .args .at) _ (omega (arith, start .pre .1 .1 .0, start .pre .1 .1 .1, at-loop .loop .inv .3, at-visit-in .visit-in .kept .1 .1 .0)) ∙ sym (length-take-le (start .args .at) _ (omega (arith, start .pre .1 .1 .0, start .pre .1 .1 .1, at-loop .loop .inv .3)))) (spare-less 0 (start .args .given .now) (take (start .args .at) (at-loop .loop .scratch)) (at-loop .loop .walk) (length (start .args .bads .now) - (at-loop .loop .i) + 0) 1 (omega arith) (at-loop .loop .inv .5 0 (spare-less 0 (start .args .given .now) (take (start .args .at) (start .args .scratch .now)) (start .args .walk) (length (start .args .bads .now)) (length (start .args .bads .now) + 0) (omega arith) (start .pre .1 .0 .1)))))),
+      ),
+    )
 
 enum-known-retained : tie.Need-enum-known-retained Inv-loop μ-loop
 enum-known-retained c = search needs
@@ -55,53 +72,61 @@ wide-requires c κs = search needs
 
 put-if-requires : tie.Need-put-if-requires Inv-loop μ-loop
 put-if-requires c κs =
-    let at-retain-in = c .before .before .before .before .before .before .before .before .before in
-    let at-loop = at-retain-in .before .before .before .before .before .before in
+    let at-retain-in = c .before .before .before .before .before .before .before in
+    let at-visit-in = at-retain-in .before .before .before .before .before .before .before in
+    let at-loop-test = at-visit-in .before .before .before .before .before in
+    let at-loop = at-loop-test .before in
     let start = at-loop .before .before .before .before .before in
-    omega (arith, start .pre .1 .1 .1, at-loop .loop .inv .3, at-loop .loop .inv .1, at-retain-in .retain-in .kept .1 .1 .0)
+    omega (arith, at-loop-test .loop-test .taken, start .pre .1 .1 .1, at-loop .loop .inv .3, at-loop .loop .inv .1, at-retain-in .retain-in .kept .1 .1 .1 .0, at-visit-in .visit-in .kept .1 .1 .0)
 
 enum-known-retained-2 : tie.Need-enum-known-retained-2 Inv-loop μ-loop
 enum-known-retained-2 c = search needs
 
 same-length : tie.Need-same-length Inv-loop μ-loop
 same-length c =
-    let at-retain-in = c .before .before .before .before .before .before .before in
-    let at-loop = at-retain-in .before .before .before .before .before .before in
-    at-retain-in .retain-in .kept .1 .0 ∙ at-loop .loop .inv .2
+    let at-retain-in = c .before .before .before .before .before in
+    let at-visit-in = at-retain-in .before .before .before .before .before .before .before in
+    let at-loop = at-visit-in .before .before .before .before .before .before in
+    at-visit-in .visit-in .kept .1 .0 ∙ at-loop .loop .inv .2
 
 same-length-2 : tie.Need-same-length-2 Inv-loop μ-loop
 same-length-2 c =
-    let at-retain-in = c .before .before .before .before .before .before .before in
-    let at-loop = at-retain-in .before .before .before .before .before .before in
-    at-retain-in .retain-in .kept .1 .1 .0 ∙ at-loop .loop .inv .3
+    let at-retain-in = c .before .before .before .before .before in
+    let at-visit-in = at-retain-in .before .before .before .before .before .before .before in
+    let at-loop = at-visit-in .before .before .before .before .before .before in
+    at-retain-in .retain-in .kept .1 .1 .1 .0 ∙ at-visit-in .visit-in .kept .1 .1 .0 ∙ at-loop .loop .inv .3
 
 returns : tie.Need-returns Inv-loop μ-loop
 returns c =
-    let at-retain-in = c .before .before .before .before .before .before .before in
-    let at-number = at-retain-in .before .before .before in
+    let at-retain-in = c .before .before .before .before .before in
+    let at-visit-in = at-retain-in .before .before .before .before .before .before .before in
+    let at-number = at-visit-in .before .before .before in
     let at-loop = at-number .before .before .before in
     let start = at-loop .before .before .before .before .before in
-    ((λ h. bads-stop (start .args .given .now) (start .args .dumps .now) (inputsIn (start .args .given .now) (start .args .call .now)) (repliesIn (start .args .given .now) (start .args .call .now)) (modeIn (start .args .call .now)) 0 (start .args .how) (start .args .bads .now) (at-loop .loop .result) (at-loop .loop .scratch) (start .args .at) (start .args .list) (at-loop .loop .walk) (at-loop .loop .kept) (at-loop .loop .i) _ _ _ (at-number .number .result) (at-number .number .ensures) (omega arith) _ (at-loop .loop .inv .7 h) (at-retain-in .retain-in .ensures .0) (c .before .retained2 .given .1)), record { laid = λ w k e. never-refused _ w k e; few = λ w k e. never-refused _ w k e; spare = λ w k c e s. never-refused _ w k e; still = λ j a b. bads-still-1 _ _ (start .args .at) (at-retain-in .retain-in .ensures .1) j a ∙ at-loop .loop .inv .6 j a b })
+    ((λ h. bads-stop (start .args .given .now) (start .args .dumps .now) (inputsIn (start .args .given .now) (start .args .call .now)) (repliesIn (start .args .given .now) (start .args .call .now)) (modeIn (start .args .call .now)) 0 (start .args .how) (start .args .bads .now) (at-loop .loop .result) (at-loop .loop .scratch) (start .args .at) (start .args .list) (at-loop .loop .walk) (at-loop .loop .kept) (at-loop .loop .i) _ _ _ (at-number .number .result) (at-number .number .ensures) (omega arith) _ (at-loop .loop .inv .7 h) (retains (start .args .given .now) (start .args .dumps .now) (inputsIn (start .args .given .now) (start .args .call .now)) (repliesIn (start .args .given .now) (start .args .call .now)) (modeIn (start .args .call .now)) (start .args .how) (at-loop .loop .i) (at-number .number .result) (at-loop .loop .result) (take (start .args .at) (at-loop .loop .scratch)) _ _ (take (start .args .at) (at-retain-in .retain-in .last .1 .1 .1 .0)) (at-loop .loop .walk) _ _ (at-visit-in .visit-in .ensures .0) (λ h. at-retain-in .retain-in .ensures .0 h (start .args .dumps .now))) (c .before .retained2 .given .1)), record { laid = λ w k e. never-refused _ w k e; few = λ w k e. never-refused _ w k e; spare = λ w k c e s. never-refused _ w k e; still = λ j a b. bads-still-1 _ _ (start .args .at) (at-retain-in .retain-in .ensures .1 ∙ at-visit-in .visit-in .ensures .1) j a ∙ at-loop .loop .inv .6 j a b })
 
 add-i : tie.Need-add-i Inv-loop μ-loop
 add-i c =
-    let at-loop-test = c .before .before .before .before .before .before .before .before .before .before .before .before .before .before .before .before .before in
+    let at-loop-test = c .before .before .before .before .before .before .before .before .before .before .before .before .before .before .before .before .before .before .before .before .before .before in
     let start = at-loop-test .before .before .before .before .before .before in
     omega (arith, at-loop-test .loop-test .taken, start .good, start .fits, start .pre .1 .1 .1)
 
 loop-less : tie.Need-loop-less Inv-loop μ-loop
-loop-less c = search needs
+loop-less c =
+    let at-loop-test = c .before .before .before .before .before .before .before .before .before .before .before .before .before .before .before .before .before .before .before .before .before .before in
+    omega (arith, at-loop-test .loop-test .taken)
 
 loop-again : tie.Need-loop-again Inv-loop μ-loop
 loop-again c =
     let at-put-if = c .before .before in
     let at-wide = at-put-if .before in
     let at-retained = at-wide .before .before .before in
-    let at-retain-in = at-retained .before .before .before .before .before .before in
-    let at-number = at-retain-in .before .before .before in
+    let at-retain-in = at-retained .before .before .before .before in
+    let at-visit-in = at-retain-in .before .before .before .before .before .before .before in
+    let at-number = at-visit-in .before .before .before in
     let at-loop = at-number .before .before .before in
     let start = at-loop .before .before .before .before .before in
-    (omega arith, omega (arith, at-put-if .put-if .ensures .few, at-loop .loop .inv .1), at-retain-in .retain-in .kept .1 .0 ∙ at-loop .loop .inv .2, at-put-if .put-if .kept .0 ∙ at-retain-in .retain-in .kept .1 .1 .0 ∙ at-loop .loop .inv .3, (subst (λ z. Laid (start .args .given .now) (start .args .dumps .now) (inputsIn (start .args .given .now) (start .args .call .now)) (repliesIn (start .args .given .now) (start .args .call .now)) (modeIn (start .args .call .now)) 0 (at-retain-in .retain-in .last .1 .0) z (at-retained .retained .given .0 .0)) (sym (take-front _ _ (start .args .at) (start .args .list) (start .pre .1 .1 .0) (at-put-if .put-if .ensures .front))) (laid-retained (start .args .given .now) (start .args .dumps .now) (inputsIn (start .args .given .now) (start .args .call .now)) (repliesIn (start .args .given .now) (start .args .call .now)) (modeIn (start .args .call .now)) 0 (at-loop .loop .result) (take (start .args .at) (at-loop .loop .scratch)) (at-retain-in .retain-in .last .1 .0) (take (start .args .at) (at-retain-in .retain-in .last .1 .1 .0)) (at-loop .loop .walk) _ (start .args .how) (at-loop .loop .i) (at-number .number .result) (at-retain-in .retain-in .result) _ (at-loop .loop .inv .4) (subst (BadEntry (tableOf (start .args .given .now))) (sym (at-number .number .ensures)) (all-at (BadEntry (tableOf (start .args .given .now))) (start .args .bads .now) (start .pre .1 .0 .0) (at-loop .loop .i) (omega arith))) (at-retain-in .retain-in .ensures .0) (at-retained .retained .given .1) (at-retain-in .retain-in .kept .1 .0) (length-take-le (start .args .at) _ (omega (arith, start .pre .1 .1 .0, start .pre .1 .1 .1, at-loop .loop .inv .3, at-retain-in .retain-in .kept .1 .1 .0)) ∙ sym (length-take-le (start .args .at) _ (omega (arith, start .pre .1 .1 .0, start .pre .1 .1 .1, at-loop .loop .inv .3)))) (spare-less 0 (start .args .given .now) (take (start .args .at) (at-loop .loop .scratch)) (at-loop .loop .walk) (length (start .args .bads .now) - (at-loop .loop .i) + 0) 1 (omega arith) (at-loop .loop .inv .5 0 (spare-less 0 (start .args .given .now) (take (start .args .at) (start .args .scratch .now)) (start .args .walk) (length (start .args .bads .now)) (length (start .args .bads .now) + 0) (omega arith) (start .pre .1 .0 .1)))))), (λ d s. subst (λ z. Spare 0 (start .args .given .now) z (at-retained .retained .given .0 .0) (length (start .args .bads .now) - ((at-loop .loop .i) + 1) + d)) (sym (take-front _ _ (start .args .at) (start .args .list) (start .pre .1 .1 .0) (at-put-if .put-if .ensures .front))) (spare-retained (start .args .given .now) (start .args .dumps .now) (inputsIn (start .args .given .now) (start .args .call .now)) (repliesIn (start .args .given .now) (start .args .call .now)) (modeIn (start .args .call .now)) 0 (at-loop .loop .result) (take (start .args .at) (at-loop .loop .scratch)) (at-retain-in .retain-in .last .1 .0) (take (start .args .at) (at-retain-in .retain-in .last .1 .1 .0)) (at-loop .loop .walk) _ (start .args .how) (at-loop .loop .i) (at-number .number .result) (at-retain-in .retain-in .result) _ (at-loop .loop .inv .4) (subst (BadEntry (tableOf (start .args .given .now))) (sym (at-number .number .ensures)) (all-at (BadEntry (tableOf (start .args .given .now))) (start .args .bads .now) (start .pre .1 .0 .0) (at-loop .loop .i) (omega arith))) (at-retain-in .retain-in .ensures .0) (at-retained .retained .given .1) (length-take-le (start .args .at) _ (omega (arith, start .pre .1 .1 .0, start .pre .1 .1 .1, at-loop .loop .inv .3, at-retain-in .retain-in .kept .1 .1 .0)) ∙ sym (length-take-le (start .args .at) _ (omega (arith, start .pre .1 .1 .0, start .pre .1 .1 .1, at-loop .loop .inv .3)))) (length (start .args .bads .now) - ((at-loop .loop .i) + 1) + d) (spare-less 0 (start .args .given .now) (take (start .args .at) (at-loop .loop .scratch)) (at-loop .loop .walk) (length (start .args .bads .now) - (at-loop .loop .i) + d) (length (start .args .bads .now) - ((at-loop .loop .i) + 1) + d + 1) (omega arith) (at-loop .loop .inv .5 d s)))), (λ j a b. bads-still _ _ _ (start .args .at) (start .args .list) (at-retain-in .retain-in .ensures .1) (at-put-if .put-if .ensures .front) j a b ∙ at-loop .loop .inv .6 j a b), λ h. bads-on (start .args .given .now) (start .args .dumps .now) (inputsIn (start .args .given .now) (start .args .call .now)) (repliesIn (start .args .given .now) (start .args .call .now)) (modeIn (start .args .call .now)) 0 (start .args .how) (start .args .bads .now) (at-loop .loop .result) (at-loop .loop .scratch) (start .args .at) (start .args .list) (at-loop .loop .walk) (at-loop .loop .kept) (at-loop .loop .i) _ _ _ (at-number .number .result) (at-number .number .ensures) (omega arith) _ (at-loop .loop .inv .7 h) (at-retain-in .retain-in .ensures .0) (at-retained .retained .given .1) (at-retain-in .retain-in .ensures .1) (start .pre .1 .1 .0) (at-wide .wide .ensures) (at-put-if .put-if .ensures))
+    (omega arith, omega (arith, at-put-if .put-if .ensures .few, at-loop .loop .inv .1), at-visit-in .visit-in .kept .1 .0 ∙ at-loop .loop .inv .2, at-put-if .put-if .kept .0 ∙ at-retain-in .retain-in .kept .1 .1 .1 .0 ∙ at-visit-in .visit-in .kept .1 .1 .0 ∙ at-loop .loop .inv .3, (subst (λ z. Laid (start .args .given .now) (start .args .dumps .now) (inputsIn (start .args .given .now) (start .args .call .now)) (repliesIn (start .args .given .now) (start .args .call .now)) (modeIn (start .args .call .now)) 0 (at-visit-in .visit-in .last .1 .0) z (at-retained .retained .given .0 .0)) (sym (take-front _ _ (start .args .at) (start .args .list) (start .pre .1 .1 .0) (at-put-if .put-if .ensures .front))) (laid-retained (start .args .given .now) (start .args .dumps .now) (inputsIn (start .args .given .now) (start .args .call .now)) (repliesIn (start .args .given .now) (start .args .call .now)) (modeIn (start .args .call .now)) 0 (at-loop .loop .result) (take (start .args .at) (at-loop .loop .scratch)) (at-visit-in .visit-in .last .1 .0) (take (start .args .at) (at-retain-in .retain-in .last .1 .1 .1 .0)) (at-loop .loop .walk) _ (start .args .how) (at-loop .loop .i) (at-number .number .result) (at-retain-in .retain-in .result) _ (at-loop .loop .inv .4) (subst (BadEntry (tableOf (start .args .given .now))) (sym (at-number .number .ensures)) (all-at (BadEntry (tableOf (start .args .given .now))) (start .args .bads .now) (start .pre .1 .0 .0) (at-loop .loop .i) (omega arith))) (retains (start .args .given .now) (start .args .dumps .now) (inputsIn (start .args .given .now) (start .args .call .now)) (repliesIn (start .args .given .now) (start .args .call .now)) (modeIn (start .args .call .now)) (start .args .how) (at-loop .loop .i) (at-number .number .result) (at-loop .loop .result) (take (start .args .at) (at-loop .loop .scratch)) _ _ (take (start .args .at) (at-retain-in .retain-in .last .1 .1 .1 .0)) (at-loop .loop .walk) _ _ (at-visit-in .visit-in .ensures .0) (λ h. at-retain-in .retain-in .ensures .0 h (start .args .dumps .now))) (at-retained .retained .given .1) (at-visit-in .visit-in .kept .1 .0) (length-take-le (start .args .at) _ (omega (arith, start .pre .1 .1 .0, start .pre .1 .1 .1, at-loop .loop .inv .3, at-retain-in .retain-in .kept .1 .1 .1 .0, at-visit-in .visit-in .kept .1 .1 .0)) ∙ sym (length-take-le (start .args .at) _ (omega (arith, start .pre .1 .1 .0, start .pre .1 .1 .1, at-loop .loop .inv .3)))) (spare-less 0 (start .args .given .now) (take (start .args .at) (at-loop .loop .scratch)) (at-loop .loop .walk) (length (start .args .bads .now) - (at-loop .loop .i) + 0) 1 (omega arith) (at-loop .loop .inv .5 0 (spare-less 0 (start .args .given .now) (take (start .args .at) (start .args .scratch .now)) (start .args .walk) (length (start .args .bads .now)) (length (start .args .bads .now) + 0) (omega arith) (start .pre .1 .0 .1)))))), (λ d s. subst (λ z. Spare 0 (start .args .given .now) z (at-retained .retained .given .0 .0) (length (start .args .bads .now) - ((at-loop .loop .i) + 1) + d)) (sym (take-front _ _ (start .args .at) (start .args .list) (start .pre .1 .1 .0) (at-put-if .put-if .ensures .front))) (spare-retained (start .args .given .now) (start .args .dumps .now) (inputsIn (start .args .given .now) (start .args .call .now)) (repliesIn (start .args .given .now) (start .args .call .now)) (modeIn (start .args .call .now)) 0 (at-loop .loop .result) (take (start .args .at) (at-loop .loop .scratch)) (at-visit-in .visit-in .last .1 .0) (take (start .args .at) (at-retain-in .retain-in .last .1 .1 .1 .0)) (at-loop .loop .walk) _ (start .args .how) (at-loop .loop .i) (at-number .number .result) (at-retain-in .retain-in .result) _ (at-loop .loop .inv .4) (subst (BadEntry (tableOf (start .args .given .now))) (sym (at-number .number .ensures)) (all-at (BadEntry (tableOf (start .args .given .now))) (start .args .bads .now) (start .pre .1 .0 .0) (at-loop .loop .i) (omega arith))) (retains (start .args .given .now) (start .args .dumps .now) (inputsIn (start .args .given .now) (start .args .call .now)) (repliesIn (start .args .given .now) (start .args .call .now)) (modeIn (start .args .call .now)) (start .args .how) (at-loop .loop .i) (at-number .number .result) (at-loop .loop .result) (take (start .args .at) (at-loop .loop .scratch)) _ _ (take (start .args .at) (at-retain-in .retain-in .last .1 .1 .1 .0)) (at-loop .loop .walk) _ _ (at-visit-in .visit-in .ensures .0) (λ h. at-retain-in .retain-in .ensures .0 h (start .args .dumps .now))) (at-retained .retained .given .1) (length-take-le (start .args .at) _ (omega (arith, start .pre .1 .1 .0, start .pre .1 .1 .1, at-loop .loop .inv .3, at-retain-in .retain-in .kept .1 .1 .1 .0, at-visit-in .visit-in .kept .1 .1 .0)) ∙ sym (length-take-le (start .args .at) _ (omega (arith, start .pre .1 .1 .0, start .pre .1 .1 .1, at-loop .loop .inv .3)))) (length (start .args .bads .now) - ((at-loop .loop .i) + 1) + d) (spare-less 0 (start .args .given .now) (take (start .args .at) (at-loop .loop .scratch)) (at-loop .loop .walk) (length (start .args .bads .now) - (at-loop .loop .i) + d) (length (start .args .bads .now) - ((at-loop .loop .i) + 1) + d + 1) (omega arith) (at-loop .loop .inv .5 d s)))), (λ j a b. bads-still _ _ _ (start .args .at) (start .args .list) (at-retain-in .retain-in .ensures .1 ∙ at-visit-in .visit-in .ensures .1) (at-put-if .put-if .ensures .front) j a b ∙ at-loop .loop .inv .6 j a b), λ h. bads-on (start .args .given .now) (start .args .dumps .now) (inputsIn (start .args .given .now) (start .args .call .now)) (repliesIn (start .args .given .now) (start .args .call .now)) (modeIn (start .args .call .now)) 0 (start .args .how) (start .args .bads .now) (at-loop .loop .result) (at-loop .loop .scratch) (start .args .at) (start .args .list) (at-loop .loop .walk) (at-loop .loop .kept) (at-loop .loop .i) _ _ _ (at-number .number .result) (at-number .number .ensures) (omega arith) _ (at-loop .loop .inv .7 h) (retains (start .args .given .now) (start .args .dumps .now) (inputsIn (start .args .given .now) (start .args .call .now)) (repliesIn (start .args .given .now) (start .args .call .now)) (modeIn (start .args .call .now)) (start .args .how) (at-loop .loop .i) (at-number .number .result) (at-loop .loop .result) (take (start .args .at) (at-loop .loop .scratch)) _ _ (take (start .args .at) (at-retain-in .retain-in .last .1 .1 .1 .0)) (at-loop .loop .walk) _ _ (at-visit-in .visit-in .ensures .0) (λ h. at-retain-in .retain-in .ensures .0 h (start .args .dumps .now))) (at-retained .retained .given .1) (at-retain-in .retain-in .ensures .1 ∙ at-visit-in .visit-in .ensures .1) (start .pre .1 .1 .0) (at-wide .wide .ensures) (at-put-if .put-if .ensures))
 
 same-length-3 : tie.Need-same-length-3 Inv-loop μ-loop
 same-length-3 c = c .before .loop .inv .2
@@ -115,4 +140,4 @@ returns-2 c =
     ((λ h. bads-end (start .args .given .now) (inputsIn (start .args .given .now) (start .args .call .now)) (repliesIn (start .args .given .now) (start .args .call .now)) (waysBy (start .args .given .now) (start .args .dumps .now) (start .args .call .now)) (start .args .how) _ (start .args .bads .now) (c .before .loop .result) (c .before .loop .scratch) (start .args .at) (start .args .list) (c .before .loop .walk) (c .before .loop .kept) (c .before .loop .i) (omega arith) (c .before .loop .inv .7 h)), record { laid = laid-end _ _ _ _ _ _ _ _ _ (c .before .loop .kept) (c .before .loop .inv .4); few = few-end (c .before .loop .walk) (c .before .loop .kept) _ (omega arith); spare = λ w k d e s. spare-end 0 (start .args .given .now) (take (start .args .at) (c .before .loop .scratch)) (c .before .loop .walk) (c .before .loop .kept) d w k e (spare-less 0 (start .args .given .now) (take (start .args .at) (c .before .loop .scratch)) (c .before .loop .walk) (length (start .args .bads .now) - (c .before .loop .i) + d) d (omega arith) (c .before .loop .inv .5 d s)); still = c .before .loop .inv .6 })
 
 pub judge-bads-spec : {M : Type 1} → statement M
-judge-bads-spec = tie.close (tie.spec Inv-loop μ-loop loop-holds mul-number shared-slice-read-number number-requires retain-in-requires enum-known-retained wide-requires put-if-requires enum-known-retained-2 same-length same-length-2 returns add-i loop-less loop-again same-length-3 same-length-4 returns-2)
+judge-bads-spec = tie.close (tie.spec Inv-loop μ-loop loop-holds mul-number shared-slice-read-number number-requires visit-in-requires retain-in-requires enum-known-retained wide-requires put-if-requires enum-known-retained-2 same-length same-length-2 returns add-i loop-less loop-again same-length-3 same-length-4 returns-2)
