@@ -22,8 +22,8 @@ use Rattle.rules.specs.Questions.{ask}
 use Rattle.rules.specs.Visit.{Ways, visit, visitTop}
 use Rattle.rules.specs.Whole as whole
 use Rattle.rules.specs.Whole.{Bads, Judgement, ifStays, ifDropped, noted, byReply, judgeBad}
+use Rattle.rules.specs.Fine.{fee}
 use Rattle.rules.proofs.Base.{If}
-use Rattle.rules.proofs.Went.{fee}
 use Rattle.rules.proofs.Walked.{Walked, Goes, bads-walked}
 use Rattle.tables.specs.declared.refusal.Refusal.{Refusal}
 use Rattle.tables.specs.Refusals.{refusalOf}

@@ -18,10 +18,10 @@ use Rattle.rules.specs.Whole.{judgeSequentials}
 use Rattle.rules.specs.Tally.{writes}
 use Rattle.rules.specs.Room.{unpaid}
 use Rattle.rules.specs.Visit.{Ways}
+use Rattle.rules.specs.Fine.{fee, Fine}
 use Rattle.rules.proofs.Budget.{unpaid-all}
 use Rattle.rules.proofs.Room.{sum-bound}
 use Rattle.rules.proofs.Shape.{start-shape, start-books}
-use Rattle.rules.proofs.Went.{fee, Fine}
 use Rattle.rules.proofs.Walked.{Walked, sequentials-walked}
 use Rattle.optimize.specs.Bounds.{countOf, mostLooked, mostNodes, roomOf, rowsEnd}
 use Rattle.optimize.specs.View.{tableOf, firsts, waysIn, markOf, view}

@@ -15,9 +15,10 @@ use Rattle.rules.specs.Table.{Kind, Write, Node, kindOf, kindCode, with, is}
 use Rattle.rules.specs.Room.{due, unpaid}
 use Rattle.rules.specs.Walk.{St, Mark, fresh, Held, setRow}
 use Rattle.rules.specs.Visit.{Ways}
+use Rattle.rules.specs.Fine.{fee}
 use Rattle.rules.proofs.Base.{If, no, put-all}
 use Rattle.rules.proofs.Shape.{points}
-use Rattle.rules.proofs.Went.{Visited, fee}
+use Rattle.rules.proofs.Went.{Visited}
 use Rattle.rules.proofs.Structure.{visit-went}
 use Rattle.optimize.specs.declared.walk.Walk.{Walk}
 use Rattle.optimize.specs.declared.walk.Visited as Answer

@@ -12,7 +12,7 @@ use Rattle.rules.specs.Legal.{AllLegal}
 use Rattle.rules.specs.Walk.{St, Held}
 use Rattle.rules.specs.Room.{unpaid}
 use Rattle.rules.specs.Visit.{Ways}
-use Rattle.rules.proofs.Went.{Fine, fee}
+use Rattle.rules.specs.Fine.{Fine, fee}
 use Rattle.optimize.specs.declared.walk.Walk.{Walk}
 use Rattle.optimize.specs.declared.walk.Visited.{Visited}
 use Rattle.optimize.specs.Bounds.{countOf, mostLooked, mostNodes, roomOf, rowsEnd}

@@ -10,6 +10,7 @@ use Rattle.rules.specs.Lists.{put, sum}
 use Rattle.rules.specs.Walk.{Mark, fresh, kept, replaced}
 use Rattle.rules.specs.Room.{due, unpaid}
 use Rattle.rules.specs.Tally.{ifVisited, ifReplaced}
+use Rattle.rules.specs.Fine.{credit}
 use Rattle.rules.proofs.Base.{cases-cond, put-other}
 
 unpaid-same : (w : ℕ → ℕ) (c : ℕ) (f g : ℕ → Mark) → ((i : ℕ) → i < c → f i ≡ g i) → unpaid w c f ≡ unpaid w c g
@@ -62,10 +63,6 @@ paid-all rd W (suc c) f = go (f c) (paid-all rd W c f)
     go (replaced r) e = omega arith
 
 -- ---- what the replaced nodes are worth
-unfoldable pub credit : (ℕ → ℕ) → ℕ → (ℕ → Mark) → ℕ
-credit w zero f = 0
-credit w (suc c) f = ifReplaced (w c) (f c) + credit w c f
-
 pub credit-same : (w : ℕ → ℕ) (c : ℕ) (f g : ℕ → Mark) → ((i : ℕ) → i < c → f i ≡ g i) → credit w c f ≡ credit w c g
 unfolding credit
 credit-same w zero f g h = refl

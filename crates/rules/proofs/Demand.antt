@@ -20,13 +20,13 @@ use Rattle.rules.specs.Walk.{St}
 use Rattle.rules.specs.Visit.{Ways}
 use Rattle.rules.specs.Whole.{waysOf, Folded, fold, run}
 use Rattle.rules.specs.Demand.{Assigns, SameInit, NonePassed, RepliesHold, worthOf, Faithful, Keeps, Demand3OfFold, Demand3}
+use Rattle.rules.specs.Fine.{Strict}
 use Rattle.rules.proofs.Base.{If, all-map}
 use Rattle.rules.proofs.Check.{accepted}
 use Rattle.rules.proofs.Legal.{state-ok}
 use Rattle.rules.proofs.Values.{meaning-same, meaning-own, value-is, value-fits}
 use Rattle.rules.proofs.Triple.{Ok, Inv, MarkOk}
 use Rattle.rules.proofs.Whole.{Env, Gone, fold-ok}
-use Rattle.rules.proofs.Search.{Strict}
 use Rattle.rules.proofs.Walked.{folded}
 
 -- ---- the values after the fold

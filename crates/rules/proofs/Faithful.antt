@@ -21,11 +21,11 @@ use Rattle.rules.specs.Value.{Value, number, memory, meaning, valueBy, v
 use Rattle.rules.specs.Whole.{trivial}
 use Rattle.rules.specs.Demand.{Assigns, SameInit, Same, Faithful, Unreplaced, worthOf}
 use Rattle.rules.specs.Call.{FaithfulOfCall, AnyAssigns, SomeAssigns}
+use Rattle.rules.specs.Fine.{MarkStands, Shape, Took, Marked}
 use Rattle.btor.proofs.Agreement.{cases}
 use Rattle.rules.proofs.Base.{cases-cond, is-kind}
 use Rattle.rules.proofs.Legal.{legal-as, init-operand, state-ok}
 use Rattle.rules.proofs.Values.{given-solves, given-only, meaning-fits}
-use Rattle.rules.proofs.Shape.{MarkStands, Shape, Took, Marked}
 use Rattle.rules.proofs.Walked.{folded}
 use Rattle.rules.proofs.Demand.{worth-node, worth-made}
 use Rattle.rules.proofs.Call.{passed, call-formed}

@@ -13,9 +13,10 @@ use Rattle.rules.specs.Legal.{WellFormed}
 use Rattle.rules.specs.Walk.{replaced}
 use Rattle.rules.specs.Whole.{Folded, fold}
 use Rattle.rules.specs.Laws.{IsNew, ReplacementBefore, ReplacementServes, ReplacementSort, MadeReplaces, ReplacementFits, MadeFits, RowKeeps, OperandsBelow}
+use Rattle.rules.specs.Fine.{Below, Stands, Refs, keptAs, MarkStands, Shape}
 use Rattle.rules.proofs.Base.{inside-or-past, is-kind}
-use Rattle.rules.proofs.Standing.{Below, Stands, Refs, ConstFits}
-use Rattle.rules.proofs.Shape.{keptAs, MarkStands, Shape, first-word, stands-sort, operand-fits}
+use Rattle.rules.proofs.Standing.{ConstFits}
+use Rattle.rules.proofs.Shape.{first-word, stands-sort, operand-fits}
 use Rattle.rules.proofs.Walked.{folded}
 
 module _ (m : Model) (how : Mode) (f : Folded) (wf : WellFormed m) (e : fold m how ≡ done f) where

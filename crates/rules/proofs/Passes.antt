@@ -16,10 +16,10 @@ use Rattle.rules.specs.Check.{knownKind, knownSort, unusedAs, named, rul
 use Rattle.rules.specs.Legal.{AllLegal}
 use Rattle.rules.specs.Walk.{St}
 use Rattle.rules.specs.Laws.{IsNew, SameNode, RowKeeps, OperandsBelow, MadeRow, Passes, RowsPass}
+use Rattle.rules.specs.Fine.{Refs, Shape}
 use Rattle.rules.proofs.Base.{no, and-both, inside-or-past, kind-of-code, code-of-kind, is-kind, kind-is}
 use Rattle.rules.proofs.Check.{all-hold, every-holds}
-use Rattle.rules.proofs.Standing.{Refs}
-use Rattle.rules.proofs.Shape.{Shape, stands-sort, stands-serves}
+use Rattle.rules.proofs.Shape.{stands-sort, stands-serves}
 use Rattle.rules.proofs.Laws.{the-shape, row-keeps, operands-below}
 
 -- ---- rule 3 of a node's row

@@ -14,10 +14,11 @@ use Rattle.rules.specs.Walk.{St}
 use Rattle.rules.specs.Fold.{Fold, swap, shared}
 use Rattle.rules.specs.Questions.{ask, askOr, quiet, askBit, askAnd, askIte}
 use Rattle.rules.specs.Visit.{Ways}
+use Rattle.rules.specs.Fine.{Below, Fine}
 use Rattle.btor.proofs.Agreement.{cases}
 use Rattle.rules.proofs.Base.{cases-cond, If, if-bind, if-map}
-use Rattle.rules.proofs.Standing.{Below, FoldStands, shared-fold}
-use Rattle.rules.proofs.Went.{Fine, At, Later, Went, went-none, went-both, ask-went}
+use Rattle.rules.proofs.Standing.{FoldStands, shared-fold}
+use Rattle.rules.proofs.Went.{At, Later, Went, went-none, went-both, ask-went}
 
 module _ (t : List Node) (ways : Ways) (ins reps : List ℕ) (k s : ℕ) where
   abbrev Folds : St → Fold → Type 0

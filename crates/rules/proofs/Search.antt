@@ -16,9 +16,10 @@ use Rattle.rules.specs.Table.{Write, Node, nodeAt, is}
 use Rattle.rules.specs.Fold.{constOf}
 use Rattle.rules.specs.Memory.{Found, lost, meetUnsettled, meet, lookAt, find, foldFound, passedBy}
 use Rattle.rules.specs.Tally.{writes}
+use Rattle.rules.specs.Fine.{Below, Stands, Strict}
 use Rattle.btor.proofs.Agreement.{cases}
 use Rattle.rules.proofs.Base.{cases-cond, inside-or-past}
-use Rattle.rules.proofs.Standing.{Below, Stands, FoldStands}
+use Rattle.rules.proofs.Standing.{FoldStands}
 
 sum-mono : (f : ℕ → ℕ) (a b : ℕ) → a ≤ b → sum a f ≤ sum b f
 unfolding sum
@@ -170,11 +171,6 @@ find-settled rows (suc f) x m =
 passedBy-zero : (o : Option ℕ) (u : ℕ) → u ≡ 0 → passedBy o u ≡ 0
 passedBy-zero none u e = refl
 passedBy-zero (some v) u e = e
-
--- what the reading says of the unsettled writes passed
-abbrev pub Strict : Reading → ℕ → Type 0
-Strict rust n = Unit
-Strict standard n = n ≡ 0
 
 pub tally-strict : (how : Reading) (n : ℕ) (rows : ℕ → Node) (f x m : ℕ) → Strict how n → Strict how (n + passedBy (find how f rows x m .value) (find how f rows x m .unsettled))
 tally-strict rust n rows f x m h = tt

@@ -1,4 +1,4 @@
--- The structural invariant of a walk: what rows, marks and constants look like, and what the lists of inputs and questions hold.
+-- The shape of rows, marks and constants, and the books of inputs and replies: how they start, what keeps them, and what a shape says.
 -- Assumes nothing.
 use Prim.Native.Nat.{ℕ, zero, suc, _+_, _-_, _<_, _≤_, _^_}
 use mathlib.Core.Path.{_≡_, refl, sym, ap, _∙_, subst}
@@ -13,46 +13,21 @@ use lib.Dec.{eqb}
 use borrow.Author.Tests.{eqb-true}
 use Rattle.btor.specs.Operators.{Reading, rust, standard}
 use Rattle.rules.specs.Lists.{put, All}
-use Rattle.rules.specs.Table.{Kind, Const, Read, Write, Word, Ult, Ext, Ite, Eq, And, Or, Not, State, Next, Input, Bad, Node, constant, unknown, kindCode, nodeAt, is, operandsAs, operands}
-use Rattle.rules.specs.Check.{unusedAs, mayServe}
+use Rattle.rules.specs.Table.{Const, Write, Next, Bad, Node, constant, unknown, kindCode, nodeAt, is, operandsAs, operands}
+use Rattle.rules.specs.Check.{mayServe}
 use Rattle.rules.specs.Legal.{AllLegal}
 use Rattle.rules.specs.Walk.{Mark, fresh, kept, replaced, Question, Held, startRows}
 use Rattle.rules.specs.Fold.{constOf}
 use Rattle.rules.specs.Questions.{firstReply, otherReplies}
 use Rattle.rules.specs.Tally.{replyAt, Apart}
 use Rattle.rules.specs.Laws.{MadeRow}
+use Rattle.rules.specs.Fine.{Below, Stands, Refs, keptAs, Alike, MarkStands, Shape, Used, Strict, Took, Books, Marked}
 use Rattle.rules.proofs.Base.{no, fresh≢replaced, inside-or-past, all-map, all-join, put-same, put-other, put-all, is-kind, kind-is}
 use Rattle.rules.proofs.Words.{width-bit}
 use Rattle.rules.proofs.Legal.{legal-as}
 use Rattle.rules.proofs.Start.{given-row, new-row}
-use Rattle.rules.proofs.Standing.{Below, Stands, Refs, ConstFits, Shares, stands-itself, stands-row, stands-const, refs-map, const-fits}
-use Rattle.rules.proofs.Search.{Points, Strict}
-
--- the word of a row that is no operand, or that is one and is not rewritten
-abbrev pub keptAs : Kind → Node → List ℕ
-keptAs Const nd = nd .a ∷ []
-keptAs Read nd = []
-keptAs Write nd = []
-keptAs (Word op) nd = []
-keptAs Ult nd = []
-keptAs Ext nd = nd .b ∷ []
-keptAs Ite nd = []
-keptAs Eq nd = []
-keptAs And nd = []
-keptAs Or nd = []
-keptAs Not nd = []
-keptAs State nd = nd .b ∷ []
-keptAs Next nd = nd .a ∷ []
-keptAs Input nd = []
-keptAs Bad nd = []
-
--- nd is the row g, as given or rewritten
-pub record Alike (nd g : Node) : Type 0 where
-  pub kind : nd .kind ≡ g .kind
-  pub sort : nd .sort ≡ g .sort
-  pub name : nd .name ≡ g .name
-  pub kept : keptAs (g .kind) nd ≡ keptAs (g .kind) g
-  pub unused : unusedAs (g .kind) nd ≡ unusedAs (g .kind) g
+use Rattle.rules.proofs.Standing.{ConstFits, stands-itself, stands-row, stands-const, refs-map, const-fits}
+use Rattle.rules.proofs.Search.{Points}
 
 pub alike-itself : (g : Node) → Alike g g
 alike-itself g = record { kind = refl; sort = refl; name = refl; kept = refl; unused = refl }
@@ -61,72 +36,34 @@ pub first-word : (x y : ℕ) → _≡_ {A = List ℕ} (x ∷ []) (y ∷ []) → 
 first-word x y e = ap (λ l. getD l 0 0) e
 
 module _ (t : List Node) where
-  abbrev pub MarkStands : (ℕ → Node) → ℕ → ℕ → Mark → Type 0
-  MarkStands rows made k fresh = Unit
-  MarkStands rows made k kept = Unit
-  MarkStands rows made k (replaced r) = Below t k r × Stands t rows made r (nodeAt t k .sort)
-
-  pub record Shape (rows : ℕ → Node) (made : ℕ) (mark : ℕ → Mark) : Type 0 where
-    pub shares : Shares t rows made
-    pub news : (r : ℕ) → length t ≤ r → r < length t + 2 + made → MadeRow (rows r)
-    pub past : (r : ℕ) → length t ≤ r → is Write (rows r) ≡ false
-    pub alike : (k : ℕ) → k < length t → Alike (rows k) (nodeAt t k)
-    pub refs : (k : ℕ) → k < length t → Refs t rows made k (operands (rows k)) (operands (nodeAt t k))
-    pub marks : (k : ℕ) → k < length t → MarkStands rows made k (mark k)
-
-  -- every made constant stands for a node
-  abbrev pub Used : (ℕ → Mark) → ℕ → Type 0
-  Used mark made = (r : ℕ) → length t + 2 ≤ r → r < length t + 2 + made → (k : ℕ) × (k < length t) × (mark k ≡ replaced r)
-
   -- a node that had no replacement is marked
-  pub used-put : (mark : ℕ → Mark) (made k : ℕ) (m : Mark) → mark k ≡ fresh → Used mark made → Used (put mark k m) made
+  pub used-put : (mark : ℕ → Mark) (made k : ℕ) (m : Mark) → mark k ≡ fresh → Used t mark made → Used t (put mark k m) made
   used-put mark made k m e h r l u =
       let w = h r l u in
       (w .0, w .1, put-other mark k m (w .0) (λ z. fresh≢replaced r (mark k) e (ap mark (sym z) ∙ w .2)) ∙ w .2)
 
   -- and where one more constant is made, it is by that
-  pub used-made : (mark : ℕ → Mark) (made k : ℕ) → k < length t → mark k ≡ fresh → Used mark made → Used (put mark k (replaced (length t + 2 + made))) (suc made)
+  pub used-made : (mark : ℕ → Mark) (made k : ℕ) → k < length t → mark k ≡ fresh → Used t mark made → Used t (put mark k (replaced (length t + 2 + made))) (suc made)
   used-made mark made k i e h r l u =
       inside-or-past _ r (length t + 2 + made) (λ q. used-put mark made k (replaced (length t + 2 + made)) e h r l q)
       (λ q. let z : length t + 2 + made ≡ r = omega arith in (k, i, put-same mark k (replaced (length t + 2 + made)) ∙ ap replaced z))
 
-  -- a state that took an input, and the constant made for it
-  pub record Took (h : Held) : Type 0 where
-    pub inside : h .state < length t
-    pub state : nodeAt t (h .state) .kind ≡ State
-    pub by : length t + 1 < h .by
-    pub bare : operands (nodeAt t (h .state)) ≡ []
-
-  -- what was taken from the inputs ins and the replies reps
-  pub record Books (how : Reading) (ins reps : List ℕ) (passed : ℕ) (inputs replies : List ℕ) (asked : List Question) (held : List Held) : Type 0 where
-    pub clean : Strict how passed
-    pub fewer : length held ≤ length ins
-    pub left : inputs ≡ drop (length held) ins
-    pub unasked : replies ≡ drop (length asked) reps
-    pub answers : (i : ℕ) → i < length asked → replyAt asked i ≡ getD reps i 0
-    pub took : All Took held
-    pub apart : Apart held
-
-  -- the states that took an input are replaced by the constants made for them
-  abbrev pub Marked : (ℕ → Mark) → List Held → Type 0
-  Marked mark held = All (λ h. mark (h .state) ≡ replaced (h .by)) held
-
   -- so none of them is fresh
-  pub marked-fresh : (mark : ℕ → Mark) (k : ℕ) → mark k ≡ fresh → (hs : List Held) → Marked mark hs → All (λ h. h .state ≢ k) hs
+  pub marked-fresh : (mark : ℕ → Mark) (k : ℕ) → mark k ≡ fresh → (hs : List Held) → Marked t mark hs → All (λ h. h .state ≢ k) hs
   marked-fresh mark k e hs h = all-map (λ h. mark (h .state) ≡ replaced (h .by)) (λ h. h .state ≢ k) (λ h q z. fresh≢replaced (h .by) (mark k) e (ap mark (sym z) ∙ q)) hs h
 
-  pub marked-put : (mark : ℕ → Mark) (k : ℕ) (m : Mark) (hs : List Held) → All (λ h. h .state ≢ k) hs → Marked mark hs → Marked (put mark k m) hs
+  pub marked-put : (mark : ℕ → Mark) (k : ℕ) (m : Mark) (hs : List Held) → All (λ h. h .state ≢ k) hs → Marked t mark hs → Marked t (put mark k m) hs
   marked-put mark k m [] n h = tt
   marked-put mark k m (g ∷ hs) n h = (put-other mark k m (g .state) (n .0) ∙ h .0, marked-put mark k m hs (n .1) (h .1))
 
   -- ---- the changes of a shape
-  module _ (rows : ℕ → Node) (made : ℕ) (mark : ℕ → Mark) (h : Shape rows made mark) where
-    mark-map : (rows′ : ℕ → Node) (made′ k : ℕ) → ((x s : ℕ) → Stands t rows made x s → Stands t rows′ made′ x s) → (m : Mark) → MarkStands rows made k m → MarkStands rows′ made′ k m
+  module _ (rows : ℕ → Node) (made : ℕ) (mark : ℕ → Mark) (h : Shape t rows made mark) where
+    mark-map : (rows′ : ℕ → Node) (made′ k : ℕ) → ((x s : ℕ) → Stands t rows made x s → Stands t rows′ made′ x s) → (m : Mark) → MarkStands t rows made k m → MarkStands t rows′ made′ k m
     mark-map rows′ made′ k f fresh g = tt
     mark-map rows′ made′ k f kept g = tt
     mark-map rows′ made′ k f (replaced r) g = (g .0, f r (nodeAt t k .sort) (g .1))
 
-    pub shape-row : (k : ℕ) (nd : Node) → k < length t → Alike nd (nodeAt t k) → Refs t rows made k (operands nd) (operands (nodeAt t k)) → Shape (put rows k nd) made mark
+    pub shape-row : (k : ℕ) (nd : Node) → k < length t → Alike nd (nodeAt t k) → Refs t rows made k (operands nd) (operands (nodeAt t k)) → Shape t (put rows k nd) made mark
     shape-row k nd l a r =
         record {
           shares = record {
@@ -142,7 +79,7 @@ module _ (t : List Node) where
           marks = λ j i. mark-map (put rows k nd) made j (stands-row t rows made k nd l) (mark j) (h .marks j i);
         }
 
-    pub shape-const : (nd : Node) → MadeRow nd → Shape (put rows (length t + 2 + made) nd) (suc made) mark
+    pub shape-const : (nd : Node) → MadeRow nd → Shape t (put rows (length t + 2 + made) nd) (suc made) mark
     shape-const nd w =
         let r : ℕ = length t + 2 + made in
         record {
@@ -163,7 +100,7 @@ module _ (t : List Node) where
         at j i u true e = w
         at j i u false e = let z = borrow.Author.Tests.eqb-false j (length t + 2 + made) e in h .news j i (omega (arith, z))
 
-    pub shape-mark : (k : ℕ) (m : Mark) → MarkStands rows made k m → Shape rows made (put mark k m)
+    pub shape-mark : (k : ℕ) (m : Mark) → MarkStands t rows made k m → Shape t rows made (put mark k m)
     shape-mark k m g =
         record {
           shares = h .shares;
@@ -171,7 +108,7 @@ module _ (t : List Node) where
           past = h .past;
           alike = h .alike;
           refs = h .refs;
-          marks = put-all (λ j x. j < length t → MarkStands rows made j x) mark k m (λ _. g) (h .marks);
+          marks = put-all (λ j x. j < length t → MarkStands t rows made j x) mark k m (λ _. g) (h .marks);
         }
 
     -- ---- what a shape says
@@ -218,7 +155,7 @@ module _ (t : List Node) where
   refs-given k l [] b s = tt
   refs-given k l (o ∷ os) b s = (((λ _. b .0), stands-itself t (startRows t) 0 o (omega (arith, b .0, l)) (s .0)), refs-given k l os (b .1) (s .1))
 
-  pub start-shape : AllLegal t → (mark : ℕ → Mark) → ((k : ℕ) → mark k ≡ fresh) → Shape (startRows t) 0 mark
+  pub start-shape : AllLegal t → (mark : ℕ → Mark) → ((k : ℕ) → mark k ≡ fresh) → Shape t (startRows t) 0 mark
   start-shape legal mark e =
       record {
         shares = record { false! = ap (startRows t) (sym (add-zero (length t))) ∙ new-row t 0; true! = new-row t 1 };
@@ -226,7 +163,7 @@ module _ (t : List Node) where
         past = λ r l. at r l (λ q. is Write q ≡ false) (λ i q. quiet i);
         alike = λ k l. subst (λ q. Alike q (nodeAt t k)) (sym (given-row t k l)) (alike-itself (nodeAt t k));
         refs = λ k l. subst (λ (q : Node). Refs t (startRows t) 0 k (operands q) (operands (nodeAt t k))) (sym (given-row t k l)) (refs-given k l (operands (nodeAt t k)) (legal k l .before) (legal k l .serve));
-        marks = λ k l. subst (MarkStands (startRows t) 0 k) (sym (e k)) tt;
+        marks = λ k l. subst (MarkStands t (startRows t) 0 k) (sym (e k)) tt;
       }
     where
       at : (r : ℕ) → length t ≤ r → (P : Node → Type 0) → ((i : ℕ) → r ≡ length t + i → P (getD (constant 1 0 ∷ constant 1 1 ∷ []) i unknown)) → P (startRows t r)
@@ -252,9 +189,9 @@ module _ (t : List Node) where
   one-more [] h a n = (tt, tt)
   one-more (g ∷ hs) h a n = (all-join (λ q. q .state ≢ g .state) hs (h ∷ []) (a .0) ((λ e. n .0 (sym e)), tt), one-more hs h (a .1) (n .1))
 
-  module _ (how : Reading) (ins reps : List ℕ) (passed : ℕ) (inputs replies : List ℕ) (asked : List Question) (held : List Held) (b : Books how ins reps passed inputs replies asked held) where
+  module _ (how : Reading) (ins reps : List ℕ) (passed : ℕ) (inputs replies : List ℕ) (asked : List Question) (held : List Held) (b : Books t how ins reps passed inputs replies asked held) where
     -- one more question takes the first reply left
-    pub books-asked : (q : Question) → q .reply ≡ firstReply replies → Books how ins reps passed inputs (otherReplies replies) (asked ++ (q ∷ [])) held
+    pub books-asked : (q : Question) → q .reply ≡ firstReply replies → Books t how ins reps passed inputs (otherReplies replies) (asked ++ (q ∷ [])) held
     books-asked q e =
         record {
           clean = b .clean;
@@ -292,7 +229,7 @@ module _ (t : List Node) where
             ap (λ (w : Question). w .reply) (List·getD-append asked (q ∷ []) _ i li) ∙ b .answers i li
 
     -- one more state takes the first input left
-    pub books-held : (x : ℕ) (xs : List ℕ) (h : Held) → inputs ≡ x ∷ xs → Took h → All (λ g. g .state ≢ h .state) held → Books how ins reps passed xs replies asked (held ++ (h ∷ []))
+    pub books-held : (x : ℕ) (xs : List ℕ) (h : Held) → inputs ≡ x ∷ xs → Took t h → All (λ g. g .state ≢ h .state) held → Books t how ins reps passed xs replies asked (held ++ (h ∷ []))
     books-held x xs h e k new =
         record {
           clean = b .clean;
@@ -300,7 +237,7 @@ module _ (t : List Node) where
           left = tail (length held) ins (sym (b .left) ∙ e) ∙ ap (λ i. drop i ins) (sym more);
           unasked = b .unasked;
           answers = b .answers;
-          took = all-join Took held (h ∷ []) (b .took) (k, tt);
+          took = all-join (Took t) held (h ∷ []) (b .took) (k, tt);
           apart = one-more held h (b .apart) new;
         }
       where
@@ -319,7 +256,7 @@ module _ (t : List Node) where
         tail (suc i) [] q = let z : _≡_ {A = ℕ} 0 1 = cc in let o : ⊥ = omega arith in absurd o
         tail (suc i) (y ∷ l) q = tail i l q
 
-    pub books-passed : (n : ℕ) → Strict how n → Books how ins reps n inputs replies asked held
+    pub books-passed : (n : ℕ) → Strict how n → Books t how ins reps n inputs replies asked held
     books-passed n e = record { clean = e; fewer = b .fewer; left = b .left; unasked = b .unasked; answers = b .answers; took = b .took; apart = b .apart }
 
 strict-start : (how : Reading) → Strict how 0

@@ -1,5 +1,4 @@
--- What stands for a node: a node before it with its sort that may serve as an operand, or a constant of its sort.
--- What each rule folds a node to stands for it.
+-- What stands for a node goes on standing as the walk goes on, and what each rule folds a node to stands for it.
 -- Assumes nothing.
 use Prim.Native.Nat.{ℕ, suc, _+_, _<_, _≤_, _^_}
 use mathlib.Core.Path.{_≡_, refl, sym, ap, _∙_, subst}
@@ -20,6 +19,7 @@ use Rattle.rules.specs.Check.{knownSort, mayServe}
 use Rattle.rules.specs.Legal.{AllLegal}
 use Rattle.rules.specs.Fold.{Fold, stays, swap, make, shared, constOf, isConst, foldWords, foldTest, foldEq, foldAnd, foldOr, foldNot, foldExt, foldConst}
 use Rattle.rules.specs.Laws.{MadeRow}
+use Rattle.rules.specs.Fine.{Below, Stands, Refs, Shares}
 use Rattle.btor.proofs.Agreement.{cases}
 use Rattle.btor.proofs.Laws.{compute-fits}
 use Rattle.rules.proofs.Base.{cases-cond, and-both, inside-or-past, put-other, is-kind, kind-is}
@@ -27,55 +27,23 @@ use Rattle.rules.proofs.Words.{complement-fits, fits-word, width-word}
 use Rattle.rules.proofs.Legal.{legal-as}
 
 module _ (t : List Node) where
-  -- x is a constant, or a node before k (up to k)
-  abbrev pub Below : ℕ → ℕ → Type 0
-  Below k x = x < length t → x < k
-
-  abbrev pub UpTo : ℕ → ℕ → Type 0
-  UpTo k x = x < length t → x ≤ k
-
   module _ (rows : ℕ → Node) (made : ℕ) where
-    -- a constant in use, of sort s
-    pub record NewFor (x s : ℕ) : Type 0 where
-      pub inside : x < length t + 2 + made
-      pub sort : rows x .sort ≡ s
-
-    pub record Stands (x s : ℕ) : Type 0 where
-      pub serve : x < length t → mayServe (nodeAt t x) ≡ true
-      pub sort : x < length t → nodeAt t x .sort ≡ s
-      pub new : length t ≤ x → NewFor x s
-
-    abbrev pub Ref : ℕ → ℕ → ℕ → Type 0
-    Ref k x o = Below k x × Stands x (nodeAt t o .sort)
-
-    -- the operands of a row, each in place of the given one
-    abbrev pub Refs : ℕ → List ℕ → List ℕ → Type 0
-    Refs k [] [] = Unit
-    Refs k [] (o ∷ os) = ⊥
-    Refs k (x ∷ xs) [] = ⊥
-    Refs k (x ∷ xs) (o ∷ os) = Ref k x o × Refs k xs os
-
     -- what a node k of sort s folds to
     abbrev pub FoldStands : ℕ → ℕ → Fold → Type 0
     FoldStands k s stays = Unit
-    FoldStands k s (swap r) = Below k r × Stands r s
+    FoldStands k s (swap r) = Below t k r × Stands t rows made r s
     FoldStands k s (make s′ y) = (s′ ≡ s) × MadeRow (constant s′ y)
 
     abbrev pub ConstFits : Option ℕ → ℕ → Type 0
     ConstFits none s = Unit
     ConstFits (some x) s = x < 2 ^ width s
 
-    -- the shared false and true
-    pub record Shares : Type 0 where
-      pub false! : rows (length t) ≡ constant 1 0
-      pub true! : rows (length t + 1) ≡ constant 1 1
-
   -- ---- a node stands for itself
-  pub stands-itself : (rows : ℕ → Node) (made x : ℕ) → x < length t → mayServe (nodeAt t x) ≡ true → Stands rows made x (nodeAt t x .sort)
+  pub stands-itself : (rows : ℕ → Node) (made x : ℕ) → x < length t → mayServe (nodeAt t x) ≡ true → Stands t rows made x (nodeAt t x .sort)
   stands-itself rows made x l h = record { serve = λ _. h; sort = λ _. refl; new = λ i. let o : ⊥ = omega arith in absurd o }
 
   -- ---- what stands goes on standing when a row of the table is set, and when a constant is made
-  pub stands-row : (rows : ℕ → Node) (made k : ℕ) (nd : Node) → k < length t → (x s : ℕ) → Stands rows made x s → Stands (put rows k nd) made x s
+  pub stands-row : (rows : ℕ → Node) (made k : ℕ) (nd : Node) → k < length t → (x s : ℕ) → Stands t rows made x s → Stands t (put rows k nd) made x s
   stands-row rows made k nd l x s h =
       record {
         serve = h .serve;
@@ -86,7 +54,7 @@ module _ (t : List Node) where
             record { inside = q .inside; sort = ap (λ (w : Node). w .sort) e ∙ q .sort };
       }
 
-  pub stands-const : (rows : ℕ → Node) (made : ℕ) (nd : Node) (x s : ℕ) → Stands rows made x s → Stands (put rows (length t + 2 + made) nd) (suc made) x s
+  pub stands-const : (rows : ℕ → Node) (made : ℕ) (nd : Node) (x s : ℕ) → Stands t rows made x s → Stands t (put rows (length t + 2 + made) nd) (suc made) x s
   stands-const rows made nd x s h =
       record {
         serve = h .serve;
@@ -97,8 +65,8 @@ module _ (t : List Node) where
             record { inside = omega (arith, q .inside); sort = ap (λ (w : Node). w .sort) e ∙ q .sort };
       }
 
-  pub refs-map : (rows rows′ : ℕ → Node) (made made′ k : ℕ) → ((x s : ℕ) → Stands rows made x s → Stands rows′ made′ x s)
-      → (xs os : List ℕ) → Refs rows made k xs os → Refs rows′ made′ k xs os
+  pub refs-map : (rows rows′ : ℕ → Node) (made made′ k : ℕ) → ((x s : ℕ) → Stands t rows made x s → Stands t rows′ made′ x s)
+      → (xs os : List ℕ) → Refs t rows made k xs os → Refs t rows′ made′ k xs os
   refs-map rows rows′ made made′ k f [] [] h = tt
   refs-map rows rows′ made made′ k f [] (o ∷ os) h = h
   refs-map rows rows′ made made′ k f (x ∷ xs) [] h = h
@@ -106,7 +74,7 @@ module _ (t : List Node) where
 
   -- ---- the number of a constant that stands for a node fits
   pub const-fits : AllLegal t → (rows : ℕ → Node) (made x s : ℕ) → (x < length t → rows x .kind ≡ nodeAt t x .kind) → (x < length t → is Const (nodeAt t x) ≡ true → rows x .a ≡ nodeAt t x .a)
-      → (length t ≤ x → MadeRow (rows x)) → Stands rows made x s → ConstFits rows made (constOf rows x) s
+      → (length t ≤ x → MadeRow (rows x)) → Stands t rows made x s → ConstFits rows made (constOf rows x) s
   const-fits legal rows made x s kinds numbers news h =
       cases (λ c. ConstFits rows made c s) (is Const (rows x))
       (λ e. inside-or-past (rows x .a < 2 ^ width s) x (length t)
@@ -118,9 +86,9 @@ module _ (t : List Node) where
       (λ l. subst (λ i. rows x .a < 2 ^ width i) (h .new l .sort) (news l .fits)))
       (λ _. tt)
 
-  module _ (rows : ℕ → Node) (made : ℕ) (sh : Shares rows made) where
+  module _ (rows : ℕ → Node) (made : ℕ) (sh : Shares t rows made) where
     -- the shared constants stand for nodes of sort 1
-    shared-stands : (s r x : ℕ) → length t ≤ r → r < length t + 2 → rows r ≡ constant 1 x → s ≡ 1 → Stands rows made r s
+    shared-stands : (s r x : ℕ) → length t ≤ r → r < length t + 2 → rows r ≡ constant 1 x → s ≡ 1 → Stands t rows made r s
     shared-stands s r x l u e q =
         record {
           serve = λ i. let o : ⊥ = omega arith in absurd o;
@@ -170,8 +138,8 @@ module _ (t : List Node) where
         (λ _. cases-cond (FoldStands rows made k s) (eqb s 1 && eqb x 1) (λ e. shared-fold k s true (eqb-true s 1 (and-both _ _ e .0))) (λ _. tt))
 
     -- ---- And and Or
-    module _ (k s x y : ℕ) (cx cy : Option ℕ) (known : knownSort s ≡ true) (ne : s ≢ 3) (bx : Below k x) (by : Below k y)
-        (sx : Stands rows made x s) (sy : Stands rows made y s) (fx : ConstFits rows made cx s) (fy : ConstFits rows made cy s) where
+    module _ (k s x y : ℕ) (cx cy : Option ℕ) (known : knownSort s ≡ true) (ne : s ≢ 3) (bx : Below t k x) (by : Below t k y)
+        (sx : Stands t rows made x s) (sy : Stands t rows made y s) (fx : ConstFits rows made cx s) (fy : ConstFits rows made cy s) where
       last-fold : (f : ℕ → ℕ → ℕ) → ((a b : ℕ) → a < 2 ^ width s → b < 2 ^ width s → f a b < 2 ^ width s) → (c d : Option ℕ) → ConstFits rows made c s → ConstFits rows made d s
           → FoldStands rows made k s (foldWords s f c d)
       last-fold f h none d fc fd = tt

@@ -25,14 +25,15 @@ use Rattle.rules.specs.Questions.{quiet}
 use Rattle.rules.specs.Visit.{Ways, Branch, left, right, undecided, branch, newNumber, settle, finishStay, finish, visit1, visit2, visit3, unary, binary, forward, iteOn, takeInput, process, visitMarked, visit}
 use Rattle.rules.specs.Tally.{writes, ifReplaced}
 use Rattle.rules.specs.Room.{due}
+use Rattle.rules.specs.Fine.{Below, Stands, Ref, Refs, keptAs, Alike, MarkStands, Shape, Used, Strict, Books, fee, Fine}
 use Rattle.btor.proofs.Agreement.{cases}
 use Rattle.rules.proofs.Base.{mk, all-join, If, if-bind, put-same, put-other}
-use Rattle.rules.proofs.Standing.{Below, Stands, Ref, Refs, FoldStands, ConstFits, stands-itself, stands-row, stands-const, own-fold, words-fold, test-fold, eq-fold, not-fold, ext-fold, const-fold, and-fold, or-fold}
+use Rattle.rules.proofs.Standing.{FoldStands, ConstFits, stands-itself, stands-row, stands-const, own-fold, words-fold, test-fold, eq-fold, not-fold, ext-fold, const-fold, and-fold, or-fold}
 use Rattle.rules.proofs.Budget.{unpaid-put, credit-put, credit-replaced}
-use Rattle.rules.proofs.Search.{Strict, looked-writes, found-fold, find-among, strict-zero, tally-strict}
+use Rattle.rules.proofs.Search.{looked-writes, found-fold, find-among, strict-zero, tally-strict}
 use Rattle.rules.proofs.Questions.{Asks, quiet-asks, bit-asks, and-asks, ite-asks}
-use Rattle.rules.proofs.Went.{fee, Fine, At, Later, Went, went-none, went-both, Visited}
-use Rattle.rules.proofs.Shape.{Shape, Books, Used, keptAs, Alike, MarkStands, used-put, used-made, marked-fresh, marked-put, shape-row, shape-const, shape-mark, points, operand-fits, books-held, books-passed}
+use Rattle.rules.proofs.Went.{At, Later, Went, went-none, went-both, Visited}
+use Rattle.rules.proofs.Shape.{used-put, used-made, marked-fresh, marked-put, shape-row, shape-const, shape-mark, points, operand-fits, books-held, books-passed}
 
 module _ (t : List Node) (ways : Ways) (ins reps : List ℕ) where
   module _ (legal : AllLegal t) (vis : St → ℕ → Out (St × ℕ)) (vis-went : (σ : St) (j : ℕ) → j < length t → Fine t ways ins reps σ → If (Visited t ways ins reps j σ) (vis σ j))

@@ -18,10 +18,10 @@ use Rattle.rules.specs.Visit.{Ways, settle, forward, takeInput}
 use Rattle.rules.specs.Questions.{ask, firstReply, most}
 use Rattle.rules.specs.Whole.{waysOf, fold, foldBads, bads, lastQuestion, visitAll, judgeSequentials}
 use Rattle.rules.specs.Tally.{writes, visitedReads, LookedRule, AState, TakenRule, AddedBy, ReadRule, forwardedReads, PassedRule, Uncounted, OthersRule, lastReply, verdictBy, VerdictRule}
+use Rattle.rules.specs.Fine.{Took}
 use Rattle.btor.proofs.Agreement.{cases}
 use Rattle.rules.proofs.Base.{all-map, If, if-bind, if-always}
 use Rattle.rules.proofs.Budget.{paid-all, credit-all}
-use Rattle.rules.proofs.Shape.{Took}
 use Rattle.rules.proofs.Walked.{folded}
 
 pub looked-rule : LookedRule

@@ -22,13 +22,14 @@ use Rattle.rules.specs.Visit.{Ways, visitTop}
 use Rattle.rules.specs.Whole.{waysOf, trivial, dropNext, judgeSequentials, Judgement, stay, visitAll, byReply, judgeBad, judgeBads, Folded, bads, lastQuestion, foldBads, fold}
 use Rattle.rules.specs.Tally.{ifReplaced}
 use Rattle.rules.specs.Room.{unpaid}
+use Rattle.rules.specs.Fine.{Stands, Took, fee, Fine}
 use Rattle.btor.proofs.Agreement.{cases}
 use Rattle.rules.proofs.Base.{all-map, If, if-bind, if-map}
 use Rattle.rules.proofs.Budget.{unpaid-less, credit-put}
 use Rattle.rules.proofs.Legal.{state-ok, init-operand}
-use Rattle.rules.proofs.Standing.{Stands, stands-itself}
-use Rattle.rules.proofs.Shape.{Took, shape-mark, marked-put, start-shape, start-books}
-use Rattle.rules.proofs.Went.{fee, Fine, Went, Visited, ask-went}
+use Rattle.rules.proofs.Standing.{stands-itself}
+use Rattle.rules.proofs.Shape.{shape-mark, marked-put, start-shape, start-books}
+use Rattle.rules.proofs.Went.{Went, Visited, ask-went}
 use Rattle.rules.proofs.Structure.{visit-went}
 
 module _ (t : List Node) (ways : Ways) (ins reps : List ℕ) (legal : AllLegal t) where

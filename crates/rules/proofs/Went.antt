@@ -8,33 +8,18 @@ use mathlib.Core.List.{List, [], _∷_}
 use native.Mathlib.Omega.{arith}
 use lib.ListN.{length, length-append}
 use lib.Dec.{leb}
-use Rattle.btor.specs.Operators.{bit}
-use Rattle.rules.specs.Table.{Read, Node, nodeAt, is}
+use Rattle.rules.specs.Table.{Node, nodeAt}
 use Rattle.rules.specs.Check.{mayServe}
 use Rattle.rules.specs.Walk.{St}
 use Rattle.rules.specs.Questions.{firstReply, most, question, ask}
 use Rattle.rules.specs.Visit.{Ways}
-use Rattle.rules.specs.Tally.{writes}
 use Rattle.rules.specs.Room.{unpaid}
+use Rattle.rules.specs.Fine.{UpTo, Stands, fee, Fine}
 use Rattle.btor.proofs.Agreement.{cases}
 use Rattle.rules.proofs.Base.{If}
-use Rattle.rules.proofs.Budget.{credit}
-use Rattle.rules.proofs.Standing.{UpTo, Stands}
-use Rattle.rules.proofs.Shape.{Shape, Books, Used, Marked, books-asked}
-
--- a Read pays for one walk
-abbrev pub fee : List Node → ℕ → ℕ
-fee t k = bit (is Read (nodeAt t k)) * writes t
+use Rattle.rules.proofs.Shape.{books-asked}
 
 module _ (t : List Node) (ways : Ways) (ins reps : List ℕ) where
-  pub record Fine (σ : St) : Type 0 where
-    pub shape : Shape t (σ .rows) (σ .made) (σ .mark)
-    pub books : Books t (ways .reading) ins reps (σ .passed) (σ .inputs) (σ .replies) (σ .asked) (σ .held)
-    pub used : Used t (σ .mark) (σ .made)
-    pub marked : Marked t (σ .mark) (σ .held)
-    pub fair : σ .passed ≤ σ .looked
-    pub gained : σ .passed ≤ credit (fee t) (length t) (σ .mark)
-
   abbrev pub At : St → ℕ → ℕ → Type 0
   At σ x s = Stands t (σ .rows) (σ .made) x s
 
@@ -43,14 +28,14 @@ module _ (t : List Node) (ways : Ways) (ins reps : List ℕ) where
 
   -- from σ to σ′: marks from k on are as they were, and what was spent is covered by what was paid, but for a questions and l looks
   pub record Went (k a l : ℕ) (σ σ′ : St) : Type 0 where
-    pub fine : Fine σ′
+    pub fine : Fine t ways ins reps σ′
     pub above : (i : ℕ) → k ≤ i → σ′ .mark i ≡ σ .mark i
     pub later : Later σ σ′
     pub few : σ′ .made + unpaid (λ k. 1) (length t) (σ′ .mark) ≤ σ .made + unpaid (λ k. 1) (length t) (σ .mark)
     pub asks : length (σ′ .asked) + unpaid (λ k. 3) (length t) (σ′ .mark) ≤ length (σ .asked) + unpaid (λ k. 3) (length t) (σ .mark) + a
     pub looks : σ′ .looked + unpaid (fee t) (length t) (σ′ .mark) ≤ σ .looked + unpaid (fee t) (length t) (σ .mark) + l
 
-  pub went-none : (k a : ℕ) (σ : St) → Fine σ → Went k a 0 σ σ
+  pub went-none : (k a : ℕ) (σ : St) → Fine t ways ins reps σ → Went k a 0 σ σ
   went-none k a σ f = record { fine = f; above = λ i h. refl; later = λ x s h. h; few = omega arith; asks = omega arith; looks = omega arith }
 
   pub went-both : (k j a b l m : ℕ) (σ σ₁ σ₂ : St) → j ≤ k → Went k a l σ σ₁ → Went j b m σ₁ σ₂ → Went k (a + b) (l + m) σ σ₂
@@ -70,7 +55,7 @@ module _ (t : List Node) (ways : Ways) (ins reps : List ℕ) where
     pub upto : UpTo t k (p .1)
     pub stands : mayServe (nodeAt t k) ≡ true → At (p .0) (p .1) (nodeAt t k .sort)
 
-  pub ask-went : (k : ℕ) (σ : St) (q x y : ℕ) (bs : List ℕ) → Fine σ → If (λ p. Went k 1 0 σ (p .0)) (ask (ways .replyCount) σ q x y bs)
+  pub ask-went : (k : ℕ) (σ : St) (q x y : ℕ) (bs : List ℕ) → Fine t ways ins reps σ → If (λ p. Went k 1 0 σ (p .0)) (ask (ways .replyCount) σ q x y bs)
   unfolding ask
   ask-went k σ q x y bs f =
       cases (If (λ p. Went k 1 0 σ (p .0))) (leb (firstReply (σ .replies)) (most q))

@@ -17,6 +17,7 @@ pub mod Demand
 pub mod Tally
 pub mod Room
 pub mod Laws
+pub mod Fine
 pub mod Cases
 pub mod Needed
 pub mod Limits
