@@ -22,6 +22,7 @@ pub mod Tally
 pub mod Room
 pub mod Laws
 pub mod Passes
+pub mod Renumber
 pub mod Cases
 pub mod Needed
 pub mod Fuel

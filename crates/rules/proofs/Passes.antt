@@ -17,19 +17,24 @@ use Rattle.rules.specs.Legal.{AllLegal}
 use Rattle.rules.specs.Walk.{St}
 use Rattle.rules.specs.Laws.{IsNew, SameNode, RowKeeps, OperandsBelow, MadeRow, Passes, RowsPass}
 use Rattle.rules.specs.Fine.{Refs, Shape}
+use Rattle.rules.specs.Renumber.{SameButOperands}
 use Rattle.rules.proofs.Base.{no, and-both, inside-or-past, kind-of-code, code-of-kind, is-kind, kind-is}
 use Rattle.rules.proofs.Check.{all-hold, every-holds}
 use Rattle.rules.proofs.Shape.{stands-sort, stands-serves}
 use Rattle.rules.proofs.Laws.{the-shape, row-keeps, operands-below}
 
+-- a rewritten row is the given one but for its operands
+but-operands : (nd g : Node) → SameNode nd g → SameButOperands nd g
+but-operands nd g s = record { kind = s .kind; sort = s .sort; name = s .name; number = s .number; from = s .from; init = s .init; unused = s .unused }
+
 -- ---- rule 3 of a node's row
 abbrev others : ℕ → Node → List Bool
 others names nd = knownSort (nd .sort) ∷ (not (is Ext nd) || knownSort (nd .b)) ∷ every (λ x. eqb x 0) (unusedAs (nd .kind) nd) ∷ named names nd
 
-abbrev three : ℕ → ℕ → Node → Bool
+abbrev pub three : ℕ → ℕ → Node → Bool
 three names code nd = allTrue (knownKind code ∷ others names nd)
 
-coded-three : (names : ℕ) (nd : Node) → rule3 names (coded nd) ≡ three names (kindCode (nd .kind)) nd
+pub coded-three : (names : ℕ) (nd : Node) → rule3 names (coded nd) ≡ three names (kindCode (nd .kind)) nd
 coded-three names nd =
     ap (λ K. three names (kindCode (nd .kind)) (record { kind = K; sort = nd .sort; a = nd .a; b = nd .b; c = nd .c; name = nd .name })) (kind-of-code (nd .kind))
 
@@ -42,7 +47,7 @@ same-from : (b x y : Bool) → (b ≡ true → x ≡ y) → (not b || x) ≡ (no
 same-from true x y h = h refl
 same-from false x y h = refl
 
-same-three : (names : ℕ) (nd g : Node) → SameNode nd g → three names (kindCode (nd .kind)) nd ≡ three names (kindCode (g .kind)) g
+pub same-three : (names : ℕ) (nd g : Node) → SameButOperands nd g → three names (kindCode (nd .kind)) nd ≡ three names (kindCode (g .kind)) g
 same-three names nd g s = λ i.
     allTrue (knownKind (kindCode (s .kind i)) ∷ knownSort (s .sort i) ∷ from i ∷ every (λ x. eqb x 0) (unused i) ∷ leb (s .name i) names
     ∷ (eqb (s .name i) 0 || of State i || of Bad i || of Input i) ∷ (not (eqb (s .name i) 0) || not (of Input i)) ∷ [])
@@ -58,13 +63,13 @@ same-three names nd g s = λ i.
 
 -- ---- rule 5's sorts: rows alike, whose operands have sorts alike
 module _ (at given : ℕ → Node) where
-  abbrev SortsLike : List ℕ → List ℕ → Type 0
+  abbrev pub SortsLike : List ℕ → List ℕ → Type 0
   SortsLike [] [] = Unit
   SortsLike [] (o ∷ os) = ⊥
   SortsLike (x ∷ xs) [] = ⊥
   SortsLike (x ∷ xs) (o ∷ os) = (at x .sort ≡ given o .sort) × SortsLike xs os
 
-  same-sorts : (K : Kind) (nd g : Node) → SameNode nd g → g .kind ≡ K → (is Next g ≡ true → is State (at (nd .a)) ≡ is State (given (g .a)))
+  pub same-sorts : (K : Kind) (nd g : Node) → SameButOperands nd g → g .kind ≡ K → (is Next g ≡ true → is State (at (nd .a)) ≡ is State (given (g .a)))
       → SortsLike (operandsAs K nd) (operandsAs K g) → sortedAs at K nd ≡ sortedAs given K g
   same-sorts Const nd g s e n h = let q = s .number (kind-is Const g e) in λ i. not (eqb (s .sort i) 3) ∷ fits (s .sort i) (q i) ∷ []
   same-sorts Read nd g s e n h = λ i. eqb (s .sort i) 2 ∷ eqb (h .0 i) 3 ∷ eqb (h .1 .0 i) 2 ∷ []
@@ -113,7 +118,7 @@ module _ (t : List Node) (legal : AllLegal t) (σ : St) (shape : Shape t (σ .ro
       five-holds (σ .rows) nd (serves k (operands nd) (operands g) (shape .refs k l))
       (subst (All (λ b. b ≡ true))
       (sym (ap (λ K. sortedAs (σ .rows) K nd) (s .kind)
-      ∙ same-sorts (σ .rows) (nodeAt t) (g .kind) nd g s refl state (subst (λ K. SortsLike (σ .rows) (nodeAt t) (operandsAs K nd) (operands g)) (s .kind) (sorts k (operands nd) (operands g) (shape .refs k l)))))
+      ∙ same-sorts (σ .rows) (nodeAt t) (g .kind) nd g (but-operands nd g s) refl state (subst (λ K. SortsLike (σ .rows) (nodeAt t) (operandsAs K nd) (operands g)) (s .kind) (sorts k (operands nd) (operands g) (shape .refs k l)))))
       (legal k l .sorts))
     where
       -- a Next's state is not rewritten, and stays a State
@@ -148,7 +153,7 @@ rows-pass names m how f wf given e k l =
     (λ i.
     let s = row-keeps m how f wf e k i in
     record {
-      three = coded-three names (f .state .rows k) ∙ same-three names (f .state .rows k) (nodeAt (m .table) k) s ∙ sym (coded-three names (nodeAt (m .table) k)) ∙ given k i;
+      three = coded-three names (f .state .rows k) ∙ same-three names (f .state .rows k) (nodeAt (m .table) k) (but-operands _ _ s) ∙ sym (coded-three names (nodeAt (m .table) k)) ∙ given k i;
       before = operands-below m how f wf e k i;
       five = node-five (m .table) (wf .nodes) (f .state) shape k i s;
     })

@@ -18,6 +18,7 @@ pub mod Tally
 pub mod Room
 pub mod Laws
 pub mod Fine
+pub mod Renumber
 pub mod Cases
 pub mod Needed
 pub mod Limits

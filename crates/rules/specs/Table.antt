@@ -1,10 +1,10 @@
 -- A table of nodes (docs/FORMAT.md, "Nodes"; Node of mod.rs).
 --     Row, rowWidth   a node as six words        Kind, kinds, kindCode   the 22 kinds and their codes
 --     Node, decode    the node that a row is     operands                the numbers that a node names
---     coded           the row that a node is
+--     coded           the row that a node is     renumber                the node with its operands mapped
 -- Assumes nothing.
 use Prim.Native.Nat.{ℕ, _^_}
-use mathlib.Core.Bool.{Bool, cond}
+use mathlib.Core.Bool.{Bool, true, false, cond}
 use mathlib.Core.List.{List, [], _∷_}
 use lib.ListN.{getD}
 use lib.Dec.{ltb, eqb}
@@ -119,6 +119,37 @@ operandsAs Bad nd = nd .a ∷ []
 
 abbrev pub operands : Node → List ℕ
 operands nd = operandsAs (nd .kind) nd
+
+-- which of the words a, b and c those are
+abbrev pub operandWordsAs : Kind → Node → Bool × Bool × Bool
+operandWordsAs Const nd = (false, false, false)
+operandWordsAs Read nd = (true, true, false)
+operandWordsAs Write nd = (true, true, true)
+operandWordsAs (Word op) nd = (true, true, false)
+operandWordsAs Ult nd = (true, true, false)
+operandWordsAs Ext nd = (true, false, false)
+operandWordsAs Ite nd = (true, true, true)
+operandWordsAs Eq nd = (true, true, false)
+operandWordsAs And nd = (true, true, false)
+operandWordsAs Or nd = (true, true, false)
+operandWordsAs Not nd = (true, false, false)
+operandWordsAs State nd = (eqb (nd .b) 1, false, false)
+operandWordsAs Next nd = (true, true, false)
+operandWordsAs Input nd = (false, false, false)
+operandWordsAs Bad nd = (true, false, false)
+
+-- a word that is an operand is mapped
+abbrev pub moved : Bool → (ℕ → ℕ) → ℕ → ℕ
+moved b f x = cond b (f x) x
+
+abbrev pub renumberAs : Kind → (ℕ → ℕ) → Node → Node
+renumberAs K f nd =
+    let w : Bool × Bool × Bool = operandWordsAs K nd in
+    with nd (moved (w .0) f (nd .a)) (moved (w .1) f (nd .b)) (moved (w .2) f (nd .c))
+
+-- the node with its operands mapped, and all else as it was
+abbrev pub renumber : (ℕ → ℕ) → Node → Node
+renumber f nd = renumberAs (nd .kind) f nd
 
 -- a number that fits the width of a sort
 abbrev pub fits : ℕ → ℕ → Bool
