@@ -2,7 +2,7 @@
 -- By taking the stages apart with the first-refusal bind; demand 3 and the room bound are the fold's, at the model that the call comes to.
 --     passed, passes     an accepted call has passed every stage, and one that passes them is accepted
 --     result-fits, result-length, scratch-length   the result is at most the need, and the buffers keep their lengths
---     demand3-of-call    demand 3, with no premise but the demand's
+--     demand3-of-call    demand 3, with no premise but the demand's; operands-of-call   what operands are worth, under the same
 --     refused-zero       a refusal leaves both buffers all zero
 -- Assumes nothing.
 use Prim.Native.Nat.{ℕ, _+_, _-_, _<_, _≤_}
@@ -24,11 +24,12 @@ use Rattle.rules.specs.Demand.{Demand3OfFold}
 use Rattle.rules.specs.Limits.{Limits, highestMode, modeOf}
 use Rattle.rules.specs.Sections.{Sections, cut}
 use Rattle.rules.specs.Names.{namesOf, dump}
-use Rattle.rules.specs.Call.{Call, judgeMode, needOf, judgeRoom, Entry, impl, withSolver, withInput, brought, modelFrom, Accepted, judgeAndFold, judgeCut, outcome, wordsOf, sectionsOf, resultOf, left, Demand3OfCall}
+use Rattle.rules.specs.Call.{Call, judgeMode, needOf, judgeRoom, Entry, impl, withSolver, withInput, brought, modelFrom, Accepted, judgeAndFold, judgeCut, outcome, wordsOf, sectionsOf, resultOf, left, Demand3OfCall, OperandsOfCall}
 use Rattle.rules.specs.Legal as legal
 use Rattle.rules.specs.Room.{RoomRule}
+use Rattle.rules.specs.Laws.{OperandsKept}
 use Rattle.rules.proofs.Check.{accepted}
-use Rattle.rules.proofs.Demand.{run-done, demand-3-of-fold}
+use Rattle.rules.proofs.Demand.{run-done, demand-3-of-fold, operands-kept}
 use Rattle.rules.proofs.Room.{room-rule}
 use Rattle.rules.proofs.Sections.{bind-done, never, same-done, through}
 
@@ -216,3 +217,9 @@ unfolding Demand3OfCall Demand3OfFold
 demand3-of-call limits entry call a e h =
     let p = passed limits entry call a e in
     demand-3-of-fold (a .model) (a .how) (a .folded) (call-formed limits entry call a p) (p .folds) (h .passed) (h .replies)
+
+pub operands-of-call : OperandsOfCall
+unfolding OperandsOfCall OperandsKept
+operands-of-call limits entry call a e h =
+    let p = passed limits entry call a e in
+    operands-kept (a .model) (a .how) (a .folded) (call-formed limits entry call a p) (p .folds) (h .passed) (h .replies)

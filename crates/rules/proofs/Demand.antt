@@ -1,17 +1,18 @@
--- Demand 3: the values after a fold, and that it keeps them.
+-- Demand 3: the values after a fold, and that it keeps them; and what the operands of the rewritten rows are worth.
 -- The numbers of a result are worth, for good, what Demand's worthOf says at the end of the fold; Whole's account is read off there.
 -- Assumes nothing.
 use Prim.Native.Nat.{ℕ, _+_, _<_}
-use mathlib.Core.Path.{_≡_, refl, sym, _∙_, subst}
+use mathlib.Core.Path.{_≡_, refl, sym, ap, ap₂, _∙_, subst}
+use mathlib.Core.Bool.{cond}
 use mathlib.Core.Option.{Option, none, some}
-use mathlib.Core.List.{List, [], _∷_}
+use mathlib.Core.List.{List, [], _∷_, map}
 use native.Mathlib.Omega.{arith}
-use lib.ListN.{length}
+use lib.ListN.{length, getD}
 use borrow.Author.Tests.{eq-eqb, ne-eqb, lt-ltb, le-ltb}
 use Rattle.btor.specs.Operators.{Reading, rust, standard}
 use Rattle.rules.specs.Lists.{All}
 use Rattle.rules.specs.Refusal.{Refusal, Out, done, unlessRefused}
-use Rattle.rules.specs.Table.{Kind, Const, Read, Write, Word, Ult, Ext, Ite, Eq, And, Or, Not, State, Next, Input, Bad, Node, nodeAt, operands}
+use Rattle.rules.specs.Table.{Kind, Const, Read, Write, Word, Ult, Ext, Ite, Eq, And, Or, Not, State, Next, Input, Bad, Node, nodeAt, operandsAs, operands}
 use Rattle.rules.specs.Model.{Model, Mode, modelOf}
 use Rattle.rules.specs.Check.{check}
 use Rattle.rules.specs.Legal.{AllLegal, Sequential, WellFormed, Accepted, AcceptedRun}
@@ -20,14 +21,16 @@ use Rattle.rules.specs.Walk.{St}
 use Rattle.rules.specs.Visit.{Ways}
 use Rattle.rules.specs.Whole.{waysOf, Folded, fold, run}
 use Rattle.rules.specs.Demand.{Assigns, SameInit, NonePassed, RepliesHold, worthOf, Faithful, Keeps, Demand3OfFold, Demand3}
+use Rattle.rules.specs.Laws.{RowKeeps, OperandsWorth, OperandsKept}
 use Rattle.rules.specs.Fine.{Strict}
-use Rattle.rules.proofs.Base.{If, all-map}
+use Rattle.rules.proofs.Base.{If, all-map, is-kind}
 use Rattle.rules.proofs.Check.{accepted}
 use Rattle.rules.proofs.Legal.{state-ok}
 use Rattle.rules.proofs.Values.{meaning-same, meaning-own, value-is, value-fits}
 use Rattle.rules.proofs.Triple.{Ok, Inv, MarkOk}
 use Rattle.rules.proofs.Whole.{Env, Gone, fold-ok}
 use Rattle.rules.proofs.Walked.{folded}
+use Rattle.rules.proofs.Laws.{row-keeps}
 
 -- ---- the values after the fold
 module _ (how : Reading) (t : List Node) (α : ℕ → Value) (σ : St) where
@@ -113,7 +116,7 @@ module _ (m : Model) (how : Mode) (f : Folded) (wf : WellFormed m) (run : fold m
       record {
         rows = λ k l.
             own-back R (σ .rows k .kind) (value R (nodeAt t) α) v (α k) (value R (nodeAt t) α k) (nodeAt t k) (σ .rows k)
-            (subst (λ K. meaning R K (value R (nodeAt t) α) (α k) (nodeAt t k) ≡ value R (nodeAt t) α k) (sym (i .kindsOk k l)) (value-is R t α (wf .nodes) k l))
+            (subst (λ K. meaning R K (value R (nodeAt t) α) (α k) (nodeAt t k) ≡ value R (nodeAt t) α k) (sym (i .givenOk k l .kind)) (value-is R t α (wf .nodes) k l))
             (subst (λ w. worth R v w (σ .rows k) ≡ w) (worth-node R t α σ k l) (i .rowsOk k .worth!));
         replacements = λ k r l e. subst (MarkOk v k) e (i .marksOk k) ∙ worth-node R t α σ k l;
         dropped =
@@ -122,6 +125,41 @@ module _ (m : Model) (how : Mode) (f : Folded) (wf : WellFormed m) (run : fold m
             subst (λ K. meaning R K (value R (nodeAt t) α) (α b) (nodeAt t b) ≡ value R (nodeAt t) α b) (d .entry .bad) (value-is R t α (wf .nodes) b (d .entry .inside))
             ∙ sym (worth-node R t α σ b (d .entry .inside)) ∙ d .zero!)
             (f .dropped) (the-end .1);
+      }
+
+-- ---- the operands of rewritten rows
+map-same : (u w : ℕ → Value) (xs : List ℕ) → All (λ x. u x ≡ w x) xs → map u xs ≡ map w xs
+map-same u w [] h = refl
+map-same u w (x ∷ xs) h = ap₂ _∷_ (h .0) (map-same u w xs (h .1))
+
+-- a State's init is its one operand
+init-operand : (nd : Node) → nd .kind ≡ State → nd .b ≡ 1 → operands nd ≡ nd .a ∷ []
+init-operand nd e b = ap (λ K. operandsAs K nd) e ∙ ap (λ q. cond q (nd .a ∷ []) []) (eq-eqb (nd .b) 1 b)
+
+module _ (m : Model) (how : Mode) (f : Folded) (wf : WellFormed m) (run : fold m how ≡ done f) (clean : f .state .passed ≡ 0)
+    (α : ℕ → Value) (replies : RepliesHold (how .reading) (m .table) α (f .state)) (faithful : Faithful (how .reading) (m .table) (m .sequentials) (f .state) α) where
+  given-worths : (k : ℕ) → k < length (m .table)
+      → map (worthOf (how .reading) (m .table) α (f .state)) (operands (f .state .rows k)) ≡ map (value (how .reading) (nodeAt (m .table)) α) (operands (nodeAt (m .table) k))
+  given-worths k l =
+      let nd : Node = nodeAt (m .table) k in
+      the-end m how f wf run clean α replies faithful .0 .givenOk k l .worths
+      ∙ map-same _ _ (operands nd)
+      (all-map (λ j. j < k) (λ j. worthOf (how .reading) (m .table) α (f .state) j ≡ value (how .reading) (nodeAt (m .table)) α j)
+      (λ j i. worth-node (how .reading) (m .table) α (f .state) j (omega (arith, i, l))) (operands nd) (wf .nodes k l .before))
+
+  operands-worth : OperandsWorth (how .reading) (m .table) (f .state) α
+  unfolding RowKeeps
+  operands-worth =
+      record {
+        each = given-worths;
+        inits = λ k l e b.
+            let nd : Node = nodeAt (m .table) k in
+            let row : Node = f .state .rows k in
+            let q = row-keeps m how f wf run k l in
+            let s = is-kind State nd e in
+            ap (λ vs. getD vs 0 (number 0))
+            (sym (ap (map (worthOf (how .reading) (m .table) α (f .state))) (init-operand row (q .kind ∙ s) (q .init e ∙ b))) ∙ given-worths k l
+            ∙ ap (map (value (how .reading) (nodeAt (m .table)) α)) (init-operand nd s b));
       }
 
 -- nothing was passed: by what is presumed, or because the standard's walk passes nothing
@@ -133,6 +171,11 @@ pub demand-3-of-fold : Demand3OfFold
 unfolding Demand3OfFold
 demand-3-of-fold m how f wf run clean replies α faithful =
     keeps m how f wf run (none-passed (how .reading) f (folded m how wf f run .fine .books .clean) clean) α (replies α faithful) faithful
+
+pub operands-kept : OperandsKept
+unfolding OperandsKept
+operands-kept m how f wf run clean replies α faithful =
+    operands-worth m how f wf run (none-passed (how .reading) f (folded m how wf f run .fine .books .clean) clean) α (replies α faithful) faithful
 
 -- a run that is done was not refused, and its fold is done
 pub run-done : {A : Type 0} (o : Option Refusal) (x : Out A) (f : A) → unlessRefused o x ≡ done f → (o ≡ none) × (x ≡ done f)

@@ -5,14 +5,14 @@
 use Prim.Native.Nat.{ℕ, _+_, _<_, _≤_}
 use mathlib.Core.Path.{_≡_, refl, sym, ap, _∙_}
 use mathlib.Core.Bool.{Bool, true, false}
-use mathlib.Core.List.{List, []}
+use mathlib.Core.List.{List, [], map}
 use native.Mathlib.Omega.{arith}
 use lib.ListN.{length}
 use lib.Dec.{leb, eqb}
 use borrow.Author.Tests.{eqb-true}
 use Rattle.rules.specs.Lists.{All}
 use Rattle.rules.specs.Refusal.{Out, refused, done, _>>=_}
-use Rattle.rules.specs.Table.{Node, constant, nodeAt}
+use Rattle.rules.specs.Table.{Node, constant, nodeAt, operands}
 use Rattle.rules.specs.Value.{Value, number}
 use Rattle.rules.specs.Walk.{St, Mark, fresh, kept, replaced, setRow, setMark, addConst}
 use Rattle.rules.specs.Fold.{Fold, stays, swap, make, shared}
@@ -34,8 +34,13 @@ MarkOk v k fresh = Unit
 MarkOk v k kept = Unit
 MarkOk v k (replaced r) = v r ≡ v k
 
+-- a row of the table, as given or rewritten: of the given kind, and its operands worth what the given ones are
+pub record GivenOk (t : List Node) (v : ℕ → Value) (k : ℕ) (nd : Node) : Type 0 where
+  pub kind : nd .kind ≡ nodeAt t k .kind
+  pub worths : map v (operands nd) ≡ map v (operands (nodeAt t k))
+
 pub record Inv (t : List Node) (ways : Ways) (v : ℕ → Value) (σ : St) : Type 0 where
-  pub kindsOk : (k : ℕ) → k < length t → σ .rows k .kind ≡ nodeAt t k .kind
+  pub givenOk : (k : ℕ) → k < length t → GivenOk t v k (σ .rows k)
   pub rowsOk : (r : ℕ) → RowOk v (ways .reading) r (σ .rows r)
   pub marksOk : (k : ℕ) → MarkOk v k (σ .mark k)
 
@@ -70,14 +75,19 @@ module _ (t : List Node) (ways : Ways) (v : ℕ → Value) where
         news = λ i l. o .news i l ∙ ap (λ (w : Node). number (w .a)) (put-other (σ .rows) k nd (length t + 2 + i) (λ e. omega arith));
       }
 
-  pub row-inv : (σ : St) (k : ℕ) (nd : Node) → nd .kind ≡ nodeAt t k .kind → RowOk v (ways .reading) k nd → Inv t ways v σ → Inv t ways v (setRow σ k nd)
-  row-inv σ k nd q h i = record { kindsOk = put-all (λ j (w : Node). j < length t → w .kind ≡ nodeAt t j .kind) (σ .rows) k nd (λ _. q) (i .kindsOk); rowsOk = put-all (RowOk v (ways .reading)) (σ .rows) k nd h (i .rowsOk); marksOk = i .marksOk }
+  pub row-inv : (σ : St) (k : ℕ) (nd : Node) → GivenOk t v k nd × RowOk v (ways .reading) k nd → Inv t ways v σ → Inv t ways v (setRow σ k nd)
+  row-inv σ k nd h i =
+      record {
+        givenOk = put-all (λ j (w : Node). j < length t → GivenOk t v j w) (σ .rows) k nd (λ _. h .0) (i .givenOk);
+        rowsOk = put-all (RowOk v (ways .reading)) (σ .rows) k nd (h .1) (i .rowsOk);
+        marksOk = i .marksOk;
+      }
 
   pub mark-step : (σ : St) (k : ℕ) (m : Mark) → Ok t ways v (setMark σ k m) → Ok t ways v σ
   mark-step σ k m o = record { clean = o .clean; told = o .told; same = o .same; news = o .news }
 
   pub mark-inv : (σ : St) (k : ℕ) (m : Mark) → MarkOk v k m → Inv t ways v σ → Inv t ways v (setMark σ k m)
-  mark-inv σ k m h i = record { kindsOk = i .kindsOk; rowsOk = i .rowsOk; marksOk = put-all (MarkOk v) (σ .mark) k m h (i .marksOk) }
+  mark-inv σ k m h i = record { givenOk = i .givenOk; rowsOk = i .rowsOk; marksOk = put-all (MarkOk v) (σ .mark) k m h (i .marksOk) }
 
   pub const-step : (σ : St) (s x : ℕ) → Ok t ways v (addConst σ (length t + 2 + σ .made) s x) → Ok t ways v σ × (v (length t + 2 + σ .made) ≡ number x)
   const-step σ s x o = (
@@ -94,7 +104,12 @@ module _ (t : List Node) (ways : Ways) (v : ℕ → Value) where
   )
 
   pub const-inv : (σ : St) (r s x : ℕ) → length t ≤ r → v r ≡ number x → Inv t ways v σ → Inv t ways v (addConst σ r s x)
-  const-inv σ r s x z h i = record { kindsOk = put-all (λ j (w : Node). j < length t → w .kind ≡ nodeAt t j .kind) (σ .rows) r (constant s x) (λ l. let o : ⊥ = omega arith in absurd o) (i .kindsOk); rowsOk = put-all (RowOk v (ways .reading)) (σ .rows) r (constant s x) (record { worth! = sym h; stored = λ e. no e }) (i .rowsOk); marksOk = i .marksOk }
+  const-inv σ r s x z h i =
+      record {
+        givenOk = put-all (λ j (w : Node). j < length t → GivenOk t v j w) (σ .rows) r (constant s x) (λ l. let o : ⊥ = omega arith in absurd o) (i .givenOk);
+        rowsOk = put-all (RowOk v (ways .reading)) (σ .rows) r (constant s x) (record { worth! = sym h; stored = λ e. no e }) (i .rowsOk);
+        marksOk = i .marksOk;
+      }
 
   -- ---- a node settled with what it folds to
   pub settle-ok : (P : Type 0) (k : ℕ) (σ : St) (f : Fold) → (P → Inv t ways v σ → FoldOk v (v k) f)
@@ -120,7 +135,7 @@ module _ (t : List Node) (ways : Ways) (v : ℕ → Value) where
       cases (Goes t ways v P σ (λ r. r ≡ 1 → Claim v (question q x y bs r))) (leb (firstReply (σ .replies)) (most q))
       (λ _ o. (
         record { clean = o .clean; told = all-left (Holds v) (σ .asked) _ (o .told); same = o .same; news = o .news },
-        λ p i. (record { kindsOk = i .kindsOk; rowsOk = i .rowsOk; marksOk = i .marksOk }, all-right (Holds v) (σ .asked) _ (o .told) .0),
+        λ p i. (record { givenOk = i .givenOk; rowsOk = i .rowsOk; marksOk = i .marksOk }, all-right (Holds v) (σ .asked) _ (o .told) .0),
       ))
       (λ _. tt)
 

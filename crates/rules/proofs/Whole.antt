@@ -28,7 +28,7 @@ use Rattle.rules.proofs.Legal.{legal-as}
 use Rattle.rules.proofs.Values.{word-num}
 use Rattle.rules.proofs.Folds.{ConstOk, isConst-ok, RowOk, const-ok}
 use Rattle.rules.proofs.Start.{given-row, new-row}
-use Rattle.rules.proofs.Triple.{Ok, Inv, MarkOk, Goes, bind, weaken, ask-ok}
+use Rattle.rules.proofs.Triple.{Ok, GivenOk, Inv, MarkOk, Goes, bind, weaken, ask-ok}
 use Rattle.rules.proofs.Visit.{visit-ok}
 
 -- what the proof knows of the values
@@ -60,7 +60,7 @@ module _ (t : List Node) (ways : Ways) (v : ℕ → Value) (env : Env t ways v) 
   drop-later : (σ : St) (nx : Node) → v (nx .a) ≡ v (nodeAt t (nx .a) .a) → Later t ways v σ (dropNext t σ nx)
   drop-later σ nx e = λ o. (
     record { clean = o .clean; told = o .told; same = o .same; news = o .news },
-    λ i. record { kindsOk = i .kindsOk; rowsOk = i .rowsOk; marksOk = put-all (MarkOk v) (σ .mark) (nx .a) (replaced (nodeAt t (nx .a) .a)) (sym e) (i .marksOk) },
+    λ i. record { givenOk = i .givenOk; rowsOk = i .rowsOk; marksOk = put-all (MarkOk v) (σ .mark) (nx .a) (replaced (nodeAt t (nx .a) .a)) (sym e) (i .marksOk) },
   )
 
   Judged : St → St × List ℕ → Type 0
@@ -117,7 +117,7 @@ module _ (t : List Node) (ways : Ways) (v : ℕ → Value) (env : Env t ways v) 
 
       -- a Bad's rewritten condition is worth what the Bad is
       condition : (σ : St) (b : ℕ) → BadEntry t b → Inv t ways v σ → v (σ .rows b .a) ≡ v b
-      condition σ b h i = subst (λ K. meaning (ways .reading) K v (v b) (σ .rows b) ≡ v b) (i .kindsOk b (h .inside) ∙ h .bad) (i .rowsOk b .worth!)
+      condition σ b h i = subst (λ K. meaning (ways .reading) K v (v b) (σ .rows b) ≡ v b) (i .givenOk b (h .inside) .kind ∙ h .bad) (i .rowsOk b .worth!)
 
       judgeBads-ok : (place : ℕ) (σ : St) (bs : List ℕ) → All (BadEntry t) bs
           → If (λ r. Swept t ways v σ (r .after) (r .dropped)) (judgeBads t ways solver terminate section place σ bs)
@@ -192,7 +192,7 @@ module _ (t : List Node) (ways : Ways) (v : ℕ → Value) (env : Env t ways v) 
       (subst (RowOk v (ways .reading) (length t + (r - length t))) (sym (new-row t (r - length t))) (past-end (r - length t))))
 
   start-inv : (is rs : List ℕ) → Inv t ways v (start t is rs)
-  start-inv is rs = record { kindsOk = λ k l. ap (λ (nd : Node). nd .kind) (given-row t k l); rowsOk = start-rows; marksOk = λ k. tt }
+  start-inv is rs = record { givenOk = λ k l. subst (GivenOk t v k) (sym (given-row t k l)) (record { kind = refl; worths = refl }); rowsOk = start-rows; marksOk = λ k. tt }
 
 -- ---- from the start to the end
 module _ (m : Model) (how : Mode) (wf : WellFormed m) (v : ℕ → Value) (env : Env (m .table) (waysOf m how) v) (inits : All (SameInit (m .table) v) (m .sequentials)) where

@@ -25,12 +25,12 @@ use Rattle.rules.specs.Demand.{Assigns, worthOf, NonePassed, Faithful, U
 use Rattle.rules.specs.Limits.{Limits, house}
 use Rattle.rules.specs.Sections.{rowsWords, encode, cutSection, rowsOf, cutSix, cut}
 use Rattle.rules.specs.Names.{cutNames, countedNames, namesOf, startsWith}
-use Rattle.rules.specs.Call.{Call, Entry, impl, Accepted, judgeMode, judgeRoom, judgeAndFold, judgeCut, outcome, FaithfulTo, HoldIn, valueIn, Premises, Demand3OfCall, FaithfulOfCall}
+use Rattle.rules.specs.Call.{Call, Entry, impl, Accepted, judgeMode, judgeRoom, judgeAndFold, judgeCut, outcome, FaithfulTo, HoldIn, valueIn, Premises, Demand3OfCall, OperandsOfCall, FaithfulOfCall}
 use Rattle.rules.specs.Cases.{row}
 use Rattle.rules.specs.Worked.{Follows, Replaced, replacedRows, replacedHeld, replacedAsked, replacedCall, ReplacedWorked, severalRows, severalAsked, severalCall, Several, SeveralWorked, Stepped, steppedRows, steppedCall, SteppedWorked}
 use Rattle.btor.proofs.Agreement.{cases}
 use Rattle.rules.proofs.Words.{width-word}
-use Rattle.rules.proofs.Call.{demand3-of-call}
+use Rattle.rules.proofs.Call.{demand3-of-call, operands-of-call}
 use Rattle.rules.proofs.Faithful.{some-assigns, faithful-of-call}
 
 -- ---- demand 3, of a call that meets its premises and whose node 0 is a word that is not replaced
@@ -49,12 +49,13 @@ module _ (t : List Node) (x : ℕ) (l : x < 2 ^ 64) (s : nodeAt t 0 .sort ≡ 2)
       (λ _. some-assigns t .1 k h i)
 
 follows : (limits : Limits) (entry : Entry) (call : Call) (o : Out Accepted) → outcome limits entry call ≡ o → OfDone Premises o → OfDone Free o → OfDone Follows o
-unfolding Demand3OfCall FaithfulOfCall
+unfolding Demand3OfCall FaithfulOfCall OperandsOfCall
 follows limits entry call (refused r) e p q = p
 follows limits entry call (done a) e p q =
     record {
       some = λ x l. let f = faithful-of-call limits entry call a e (giving (a .model .table) x l (q .0)) (giving-fits (a .model .table) x l (q .0)) in (f .0, f .1, f .2 0 (q .1));
       every = demand3-of-call limits entry call a e p;
+      operands = operands-of-call limits entry call a e p;
     }
 
 -- ---- what is computed of a call: its table and lists, what it kept, asked and counted, the marks of some nodes and one row

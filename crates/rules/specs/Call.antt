@@ -17,6 +17,7 @@ use Rattle.rules.specs.Model.{Model, Mode, modelOf}
 use Rattle.rules.specs.Whole.{Folded, fold, run}
 use Rattle.rules.specs.Result.{resultWords}
 use Rattle.rules.specs.Demand.{Assigns, NonePassed, Faithful, Unreplaced, RepliesHold, Keeps}
+use Rattle.rules.specs.Laws.{OperandsWorth}
 use Rattle.rules.specs.Limits.{Limits, house, need, highestMode, modeOf}
 use Rattle.rules.specs.Sections.{Sections, cut}
 use Rattle.rules.specs.Names.{namesOf, dump}
@@ -182,6 +183,12 @@ unfoldable pub Demand3OfCall : Type 0
 Demand3OfCall =
     (limits : Limits) (entry : Entry) (call : Call) (a : Accepted) → outcome limits entry call ≡ done a
     → Premises a → (α : ℕ → Value) → FaithfulTo a α → Keeps (a .how .reading) (a .model .table) (a .folded) α
+
+-- under the same premises the operands of rewritten rows are worth what the given ones are
+unfoldable pub OperandsOfCall : Type 0
+OperandsOfCall =
+    (limits : Limits) (entry : Entry) (call : Call) (a : Accepted) → outcome limits entry call ≡ done a
+    → Premises a → (α : ℕ → Value) → FaithfulTo a α → OperandsWorth (a .how .reading) (a .model .table) (a .folded .state) α
 
 -- it is not said of nothing: whatever an assignment that fits gives the Inputs and the states that are not replaced, some faithful one gives them too
 unfoldable pub FaithfulOfCall : Type 0

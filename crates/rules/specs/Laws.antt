@@ -1,4 +1,4 @@
--- What a fold leaves, in laws that later work leans on: of replacements, of made constants, of rewritten rows.
+-- What a fold leaves, in laws that later work leans on: of replacements, of made constants, of rewritten rows and their operands.
 -- Each is of every well-formed model that folds without refusal; the last is of the visits themselves.
 -- Assumes nothing.
 use Prim.Native.Nat.{ℕ, _+_, _<_, _≤_, _^_}
@@ -6,8 +6,9 @@ use mathlib.Core.Path.{_≡_}
 use mathlib.Core.Logic.{_≢_, _⊎_}
 use mathlib.Core.Bool.{true}
 use mathlib.Core.Option.{some}
-use mathlib.Core.List.{List}
+use mathlib.Core.List.{List, map}
 use lib.ListN.{length}
+use Rattle.btor.specs.Operators.{Reading}
 use Rattle.btor.specs.Sorts.{width}
 use Rattle.rules.specs.Lists.{All}
 use Rattle.rules.specs.Refusal.{done}
@@ -19,6 +20,8 @@ use Rattle.rules.specs.Walk.{St, replaced}
 use Rattle.rules.specs.Fold.{constOf}
 use Rattle.rules.specs.Visit.{Ways, visitMarked, visitTop}
 use Rattle.rules.specs.Whole.{Folded, fold}
+use Rattle.rules.specs.Value.{Value, value}
+use Rattle.rules.specs.Demand.{worthOf, Faithful, RepliesHold, NonePassed}
 
 -- P holds of whatever a fold leaves
 abbrev pub OfFolds : (List Node → St → Type 0) → Type 0
@@ -106,6 +109,20 @@ GivenPass names t = (k : ℕ) → k < length t → rule3 names (coded (nodeAt t 
 
 unfoldable pub RowsPass : Type 0
 RowsPass = (names : ℕ) (m : Model) (how : Mode) (f : Folded) → WellFormed m → GivenPass names (m .table) → fold m how ≡ done f → AllPass names (m .table) (f .state)
+
+-- what the operands of rewritten rows are worth
+pub record OperandsWorth (how : Reading) (t : List Node) (σ : St) (α : ℕ → Value) : Type 0 where
+  -- each what the operand in its place in the given row is worth in the given table
+  pub each : (k : ℕ) → k < length t → map (worthOf how t α σ) (operands (σ .rows k)) ≡ map (value how (nodeAt t) α) (operands (nodeAt t k))
+  -- so a State's init what the given one is
+  pub inits : (k : ℕ) → k < length t → is State (nodeAt t k) ≡ true → nodeAt t k .b ≡ 1 → worthOf how t α σ (σ .rows k .a) ≡ value how (nodeAt t) α (nodeAt t k .a)
+
+-- under demand 3's premises
+unfoldable pub OperandsKept : Type 0
+OperandsKept =
+    (m : Model) (how : Mode) (f : Folded) → WellFormed m → fold m how ≡ done f → NonePassed (how .reading) f
+    → ((α : ℕ → Value) → Faithful (how .reading) (m .table) (m .sequentials) (f .state) α → RepliesHold (how .reading) (m .table) α (f .state))
+    → (α : ℕ → Value) → Faithful (how .reading) (m .table) (m .sequentials) (f .state) α → OperandsWorth (how .reading) (m .table) (f .state) α
 
 -- fuel is bookkeeping: in a legal table a visit from a list is the rule of visits over itself
 unfoldable pub VisitRule : Type 0

@@ -1,5 +1,5 @@
 -- Demand 3 at work: three calls that meet its premises, what each of them replaced, asked and dropped, and what follows.
---     Follows               demand 3's conclusion, of some assignment and of every faithful one
+--     Follows               demand 3's conclusion, of some assignment and of every faithful one, and what operands are worth in each
 --     ReplacedWorked        a dropped Next, a state that took an input, and replies of yes to every kind of question that a node or a bad draws
 --     SeveralWorked         one-query with two bads left, and the reply that neither can be
 --     SteppedWorked         a kept Next, a memory, a Read past a settled Write to its value, and a bad that is found satisfiable
@@ -13,6 +13,7 @@ use Rattle.rules.specs.Value.{Value, number}
 use Rattle.rules.specs.Walk.{Question, Held}
 use Rattle.rules.specs.Questions.{alwaysTrue, alwaysFalse, equal, satisfiable, several, question}
 use Rattle.rules.specs.Demand.{Keeps}
+use Rattle.rules.specs.Laws.{OperandsWorth}
 use Rattle.rules.specs.Limits.{house}
 use Rattle.rules.specs.Call.{Call, impl, Accepted, outcome, FaithfulTo, HoldIn, valueIn, Premises}
 use Rattle.rules.specs.Cases.{row, callOf}
@@ -21,6 +22,7 @@ use Rattle.rules.specs.Cases.{row, callOf}
 pub record Follows (a : Accepted) : Type 0 where
   pub some : (x : ℕ) → x < 2 ^ 64 → (α : ℕ → Value) × FaithfulTo a α × (α 0 ≡ number x)
   pub every : (α : ℕ → Value) → FaithfulTo a α → Keeps (a .how .reading) (a .model .table) (a .folded) α
+  pub operands : (α : ℕ → Value) → FaithfulTo a α → OperandsWorth (a .how .reading) (a .model .table) (a .folded .state) α
 
 -- ---- 0 an Input, 1 a State with init 0, 2 its Next, which is the State itself, 3 a State that takes the input 0, 4 whether 1 is below 0, 5 whether not,
 -- 6 that twice, 7 if 4 then 0 else 1, 8 whether 7 is below 0, 9 whether 0 is below 3, 10 whether 8 or 9; Bads on 4, 6 and 10. Under minimise.
