@@ -1,5 +1,5 @@
--- What the checks do not refuse meets rules 3 to 7.
--- Each refusal is the first of a list; where none is drawn, every test of the list held.
+-- What the checks do not refuse meets rules 3 to 7, and what meets them is not refused.
+-- Each refusal is the first of a list; none is drawn exactly where every test of the list holds.
 -- Assumes nothing.
 use Prim.Native.Nat.{ℕ, zero, suc, _+_, _<_}
 use mathlib.Core.Path.{_≡_, refl, sym, ap, _∙_, subst}
@@ -11,13 +11,13 @@ use native.Mathlib.Omega.{arith}
 use native.Mathlib.Nat.{zero-add, add-zero, add-suc, suc-add, not-suc-le-zero, le-of-suc-le-suc}
 use lib.ListN.{length, List·getD-map, length-map}
 use lib.Dec.{ltb, eqb}
-use borrow.Author.Tests.{eqb-true, eqb-false, ltb-true, not-true}
+use borrow.Author.Tests.{eqb-true, eqb-false, eq-eqb, ne-eqb, ltb-true, lt-ltb, not-true}
 use Rattle.rules.specs.Lists.{allTrue, every, member, All}
 use Rattle.rules.specs.Refusal.{Refusal, unless, firstOf}
 use Rattle.rules.specs.Table.{Next, Bad, Row, Node, decode, nodeAt, operands}
-use Rattle.rules.specs.Check.{knownKind, knownSort, mayServe, sorted, rule3, rule4, rule5, checkNode, checkNodes, sequentialEntry, badEntry, checkSequentials, checkBads, check}
-use Rattle.rules.specs.Legal.{Legal, AllLegal, Sequential, BadEntry, Once, noRow, rowAt, Accepted}
-use Rattle.rules.proofs.Base.{no, and-both, all-map, is-kind}
+use Rattle.rules.specs.Check.{knownKind, knownSort, mayServe, sortedAs, sorted, rule5At, rule3, rule4, rule5, checkNode, checkNodes, sequentialEntry, badEntry, checkSequentials, checkBads, check}
+use Rattle.rules.specs.Legal.{Legal, AllLegal, Sequential, BadEntry, Once, noRow, rowAt, Accepted, Unrefused}
+use Rattle.rules.proofs.Base.{no, and-both, all-map, is-kind, kind-is}
 
 -- ---- tests read
 all-true : (bs : List Bool) → allTrue bs ≡ true → All (λ b. b ≡ true) bs
@@ -36,6 +36,10 @@ all-hold (b ∷ bs) h = ap (λ x. x && allTrue bs) (h .0) ∙ all-hold bs (h .1)
 pub every-holds : (p : ℕ → Bool) (xs : List ℕ) → All (λ x. p x ≡ true) xs → every p xs ≡ true
 every-holds p [] h = refl
 every-holds p (x ∷ xs) h = ap (λ b. b && every p xs) (h .0) ∙ every-holds p xs (h .1)
+
+-- serving operands and sorts are all of rule 5
+pub five-holds : (at : ℕ → Node) (nd : Node) → All (λ x. mayServe (at x) ≡ true) (operands nd) → All (λ b. b ≡ true) (sortedAs at (nd .kind) nd) → rule5At at nd ≡ true
+five-holds at nd h g = ap (λ b. b && allTrue (sortedAs at (nd .kind) nd)) (every-holds (λ x. mayServe (at x)) (operands nd) h) ∙ all-hold (sortedAs at (nd .kind) nd) g
 
 -- ---- refusals
 some≢none : {A B : Type 0} (x : A) → some x ≡ none → B
@@ -136,3 +140,72 @@ accepted names rs dump ss initial later ins reps e =
         later = bads-ok t 4 0 later (f .1 .1 .1 .0);
       };
     }
+
+-- ---- what meets the rules is not refused
+no-fault : (os : List (Option Refusal)) → All (λ o. o ≡ none) os → firstOf os ≡ none
+no-fault [] h = refl
+no-fault (o ∷ os) h = ap (λ p. firstOf (p ∷ os)) (h .0) ∙ no-fault os (h .1)
+
+unless-held : (b : Bool) (r s p : ℕ) → b ≡ true → unless b r s p ≡ none
+unless-held b r s p e = ap (λ c. unless c r s p) e
+
+nodes-pass : (names : ℕ) (t : List Node) (rs : List Row) (k : ℕ) → ((i : ℕ) → i < length rs → checkNode names t (k + i) (rowAt rs i) ≡ none) → checkNodes names t k rs ≡ none
+unfolding checkNodes
+nodes-pass names t [] k h = refl
+nodes-pass names t (r ∷ rs) k h =
+    no-fault (checkNode names t k r ∷ checkNodes names t (suc k) rs ∷ []) (
+      subst (λ j. checkNode names t j r ≡ none) (add-zero k) (h zero (omega arith)),
+      (nodes-pass names t rs (suc k) (λ i l. subst (λ j. checkNode names t j (rowAt rs i) ≡ none) (add-suc k i ∙ sym (suc-add k i)) (h (suc i) (omega arith))), tt),
+    )
+
+-- a legal node whose row passes rule 3
+node-pass : (names : ℕ) (t : List Node) (k : ℕ) (r : Row) → rule3 names r ≡ true → Legal t k (decode r) → checkNode names t k r ≡ none
+node-pass names t k r e g =
+    let nd : Node = decode r in
+    no-fault (unless (rule3 names r) 3 1 k ∷ unless (rule4 k nd) 4 1 k ∷ unless (rule5 t nd) 5 1 k ∷ []) (
+      unless-held (rule3 names r) 3 1 k e,
+      (
+        unless-held (rule4 k nd) 4 1 k (every-holds (λ x. ltb x k) (operands nd) (all-map (λ x. x < k) (λ x. ltb x k ≡ true) (λ x l. lt-ltb x k l) (operands nd) (g .before))),
+        (unless-held (rule5 t nd) 5 1 k (five-holds (nodeAt t) nd (g .serve) (g .sorts)), tt),
+      ),
+    )
+
+module _ (t : List Node) where
+  sequentials-pass : (place : ℕ) (seen ss : List ℕ) → All (Sequential t) ss → Once t ss → All (λ s. member (nodeAt t s .a) seen ≡ false) ss → checkSequentials t place seen ss ≡ none
+  unfolding checkSequentials Once
+  sequentials-pass place seen [] h o n = refl
+  sequentials-pass place seen (s ∷ ss) h o n =
+      no-fault (unless (allTrue (sequentialEntry t s)) 6 2 place ∷ unless (not (member (nodeAt t s .a) seen)) 7 2 place ∷ checkSequentials t (suc place) (nodeAt t s .a ∷ seen) ss ∷ []) (
+        unless-held (allTrue (sequentialEntry t s)) 6 2 place
+            (all-hold (sequentialEntry t s) (lt-ltb s (length t) (h .0 .inside), (kind-is Next (nodeAt t s) (h .0 .next), (eq-eqb _ 1 (h .0 .init), tt)))),
+        (unless-held (not (member (nodeAt t s .a) seen)) 7 2 place (ap not (n .0)), (sequentials-pass (suc place) (nodeAt t s .a ∷ seen) ss (h .1) (o .1) (unseen ss (o .0) (n .1)), tt)),
+      )
+    where
+      unseen : (rs : List ℕ) → All (λ r. nodeAt t r .a ≢ nodeAt t s .a) rs → All (λ r. member (nodeAt t r .a) seen ≡ false) rs → All (λ r. member (nodeAt t r .a) (nodeAt t s .a ∷ seen) ≡ false) rs
+      unseen [] p q = tt
+      unseen (r ∷ rs) p q = (ap (λ b. b || member (nodeAt t r .a) seen) (ne-eqb (nodeAt t r .a) (nodeAt t s .a) (p .0)) ∙ q .0, unseen rs (p .1) (q .1))
+
+  none-seen : (ss : List ℕ) → All (λ s. member (nodeAt t s .a) [] ≡ false) ss
+  none-seen [] = tt
+  none-seen (s ∷ ss) = (refl, none-seen ss)
+
+  bads-pass : (section place : ℕ) (bs : List ℕ) → All (BadEntry t) bs → checkBads t section place bs ≡ none
+  unfolding checkBads
+  bads-pass section place [] h = refl
+  bads-pass section place (b ∷ bs) h =
+      no-fault (unless (allTrue (badEntry t b)) 6 section place ∷ checkBads t section (suc place) bs ∷ [])
+      (unless-held (allTrue (badEntry t b)) 6 section place (all-hold (badEntry t b) (lt-ltb b (length t) (h .0 .inside), (kind-is Bad (nodeAt t b) (h .0 .bad), tt))), (bads-pass section (suc place) bs (h .1), tt))
+
+pub unrefused : Unrefused
+unfolding Unrefused check
+unrefused names rs dump ss initial later ins reps h =
+    let t : List Node = map decode rs in
+    no-fault (checkNodes names t 0 rs ∷ checkSequentials t 0 [] ss ∷ checkBads t 3 0 initial ∷ checkBads t 4 0 later ∷ []) (
+      nodes-pass names t rs 0
+          (λ i l. subst (λ j. checkNode names t j (rowAt rs i) ≡ none) (sym (zero-add i))
+          (node-pass names t i (rowAt rs i) (h .rows i l) (subst (Legal t i) (List·getD-map decode rs i noRow) (h .model .nodes i (subst (λ n. i < n) (sym (length-map rs decode)) l))))),
+      (
+        sequentials-pass t 0 [] ss (h .model .sequentials) (h .model .once) (none-seen t ss),
+        (bads-pass t 3 0 initial (h .model .initial), (bads-pass t 4 0 later (h .model .later), tt)),
+      ),
+    )

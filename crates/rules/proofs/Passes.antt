@@ -19,7 +19,7 @@ use Rattle.rules.specs.Laws.{IsNew, SameNode, RowKeeps, OperandsBelow, M
 use Rattle.rules.specs.Fine.{Refs, Shape}
 use Rattle.rules.specs.Renumber.{SameButOperands}
 use Rattle.rules.proofs.Base.{no, and-both, inside-or-past, kind-of-code, code-of-kind, is-kind, kind-is}
-use Rattle.rules.proofs.Check.{all-hold, every-holds}
+use Rattle.rules.proofs.Check.{all-hold, five-holds}
 use Rattle.rules.proofs.Shape.{stands-sort, stands-serves}
 use Rattle.rules.proofs.Laws.{the-shape, row-keeps, operands-below}
 
@@ -93,10 +93,6 @@ module _ (at given : ℕ → Node) where
   same-sorts Next nd g s e n h = let q = n (kind-is Next g e) in λ i. q i ∷ eqb (h .0 i) (s .sort i) ∷ eqb (h .1 .0 i) (s .sort i) ∷ []
   same-sorts Input nd g s e n h = refl
   same-sorts Bad nd g s e n h = λ i. eqb (s .sort i) 1 ∷ eqb (h .0 i) 1 ∷ []
-
--- serving operands and sorts are all of it
-five-holds : (at : ℕ → Node) (nd : Node) → All (λ x. mayServe (at x) ≡ true) (operands nd) → All (λ b. b ≡ true) (sortedAs at (nd .kind) nd) → rule5At at nd ≡ true
-five-holds at nd h g = ap (λ b. b && allTrue (sortedAs at (nd .kind) nd)) (every-holds (λ x. mayServe (at x)) (operands nd) h) ∙ all-hold (sortedAs at (nd .kind) nd) g
 
 -- ---- the rows that a fold left
 module _ (t : List Node) (legal : AllLegal t) (σ : St) (shape : Shape t (σ .rows) (σ .made) (σ .mark)) where

@@ -3,7 +3,7 @@
 --     left               the answer, the result buffer and the scratch buffer after a call
 --     optimizeModelImpl, optimizeModelWithSolver, optimizeModelWithInput   the three entry points
 -- Assumes nothing.
-use Prim.Native.Nat.{ℕ, _+_, _-_, _<_}
+use Prim.Native.Nat.{ℕ, _+_, _-_, _<_, _≤_}
 use mathlib.Core.Path.{_≡_}
 use mathlib.Core.Bool.{true, false}
 use mathlib.Core.List.{List, [], _++_, flatten}
@@ -13,14 +13,15 @@ use Rattle.rules.specs.Value.{Value, value, Fits}
 use Rattle.rules.specs.Refusal.{Out, refused, done, refuse, _>>=_, unlessRefused}
 use Rattle.rules.specs.Table.{Node, nodeAt}
 use Rattle.rules.specs.Check.{check}
+use Rattle.rules.specs.Legal.{Meets}
 use Rattle.rules.specs.Model.{Model, Mode, modelOf}
 use Rattle.rules.specs.Whole.{Folded, fold, run}
 use Rattle.rules.specs.Result.{resultWords}
 use Rattle.rules.specs.Demand.{Assigns, NonePassed, Faithful, Unreplaced, RepliesHold, Keeps}
 use Rattle.rules.specs.Laws.{OperandsWorth}
 use Rattle.rules.specs.Limits.{Limits, house, need, highestMode, modeOf}
-use Rattle.rules.specs.Sections.{Sections, cut}
-use Rattle.rules.specs.Names.{namesOf, dump}
+use Rattle.rules.specs.Sections.{Sections, cut, encode, Within}
+use Rattle.rules.specs.Names.{namesOf, dump, nameBytes, NamesWithin}
 
 -- what a caller hands over: the buffers result and scratch count by their lengths alone
 pub record Call : Type 0 where
@@ -101,6 +102,21 @@ judged limits call = do
   names ← namesOf limits (call .names)
   _ ← judgeRoom (needOf s) (call .resultRoom) (call .scratchRoom)
   unlessRefused (check (length names) (s .rows) (modelFrom names s)) (done (record { how = how; sections = s; names = names }))
+
+-- what passes them: words and bytes of sections and names within their limits that meet rules 3 to 7, in a mode and with room
+pub record Presented (limits : Limits) (call : Call) (j : Judged) : Type 0 where
+  pub mode : call .mode ≤ highestMode
+  pub how : modeOf (call .mode) ≡ j .how
+  pub words : encode (j .sections) ≡ call .words
+  pub within : Within limits (j .sections)
+  pub bytes : nameBytes (j .names) ≡ call .names
+  pub namesWithin : NamesWithin limits (j .names)
+  pub resultRoom : needOf (j .sections) ≤ call .resultRoom
+  pub scratchRoom : needOf (j .sections) ≤ call .scratchRoom
+  pub rules : Meets (length (j .names)) (j .sections .rows) (modelFrom (j .names) (j .sections))
+
+unfoldable pub JudgedPresented : Type 0
+JudgedPresented = (limits : Limits) (call : Call) (j : Judged) → Presented limits call j → judged limits call ≡ done j
 
 -- the walk of a judged call
 abbrev pub foldJudged : Entry → Judged → Out Accepted

@@ -1,6 +1,6 @@
 -- What the checks establish of a table and its lists, as facts: rules 3 to 7 hold of whatever is accepted.
 --     Legal      what they establish of a node    WellFormed   of a model, with rules 6 and 7 of its lists
---     Accepted   a model that is not refused is well formed, and rule 3 holds of each row
+--     Accepted   a model that is not refused is well formed, and rule 3 holds of each row     Unrefused   and the other way round
 -- Assumes nothing.
 use Prim.Native.Nat.{ℕ, _<_}
 use mathlib.Core.Path.{_≡_}
@@ -70,3 +70,9 @@ AcceptedRun =
     (names : ℕ) (rs : List Row) (dump : ℕ → Bool) (ss initial later inputs replies : List ℕ) (how : Mode) (f : Folded)
     → run names rs (modelOf rs dump ss initial later inputs replies) how ≡ done f
     → Meets names rs (modelOf rs dump ss initial later inputs replies) × (fold (modelOf rs dump ss initial later inputs replies) how ≡ done f)
+
+-- the other way round, a model that meets them is not refused
+unfoldable pub Unrefused : Type 0
+Unrefused =
+    (names : ℕ) (rs : List Row) (dump : ℕ → Bool) (ss initial later inputs replies : List ℕ)
+    → Meets names rs (modelOf rs dump ss initial later inputs replies) → check names rs (modelOf rs dump ss initial later inputs replies) ≡ none
