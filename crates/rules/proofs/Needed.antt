@@ -7,10 +7,10 @@ use mathlib.Core.List.{List, [], _∷_, map}
 use native.Mathlib.Omega.{arith}
 use lib.Dec.{lit<}
 use Rattle.btor.specs.Operators.{rust, compute}
-use Rattle.btor.specs.Sorts.{width, ones}
+use Rattle.btor.specs.Sorts.{width, ones, bitCode, wordCode, memoryCode}
 use Rattle.rules.specs.Lists.{All}
 use Rattle.rules.specs.Refusal.{Out, done, refused}
-use Rattle.rules.specs.Table.{Row, decode, nodeAt}
+use Rattle.rules.specs.Table.{Const, Read, Write, Eq, State, Input, Bad, Row, decode, nodeAt}
 use Rattle.rules.specs.Model.{modelOf}
 use Rattle.rules.specs.Check.{checkNodes, checkSequentials, checkBads, check}
 use Rattle.rules.specs.Value.{Value, number, memory, num, value, over, overIn}
@@ -34,8 +34,8 @@ result (done f) = f
 -- ---- Write 7 at 5, write 9 at an Input, read 5, and a Bad where the read is 7
 unfoldable unsettled : List Row
 unsettled =
-    row 1 2 5 0 0 0 ∷ row 1 2 7 0 0 0 ∷ row 21 2 0 0 0 1 ∷ row 1 2 9 0 0 0 ∷ row 19 3 0 0 0 0
-    ∷ row 3 3 4 0 1 0 ∷ row 3 3 5 2 3 0 ∷ row 2 2 6 0 0 0 ∷ row 15 1 7 1 0 0 ∷ row 22 1 8 0 0 0 ∷ []
+    row Const wordCode 5 0 0 0 ∷ row Const wordCode 7 0 0 0 ∷ row Input wordCode 0 0 0 1 ∷ row Const wordCode 9 0 0 0 ∷ row State memoryCode 0 0 0 0
+    ∷ row Write memoryCode 4 0 1 0 ∷ row Write memoryCode 5 2 3 0 ∷ row Read wordCode 6 0 0 0 ∷ row Eq bitCode 7 1 0 0 ∷ row Bad bitCode 8 0 0 0 ∷ []
 
 unfoldable forwarded : Folded
 forwarded = result (run 1 unsettled (modelOf unsettled (λ k. false) [] (9 ∷ []) [] [] []) mode0)
@@ -94,7 +94,7 @@ unsettled-needed h =
 
 -- ---- a Bad on an Input, and the reply that it is unsatisfiable
 unfoldable doubted : List Row
-doubted = row 21 1 0 0 0 1 ∷ row 22 1 0 0 0 0 ∷ []
+doubted = row Input bitCode 0 0 0 1 ∷ row Bad bitCode 0 0 0 0 ∷ []
 
 unfoldable believed : Folded
 believed = result (run 1 doubted (modelOf doubted (λ k. false) [] (1 ∷ []) [] [] (1 ∷ [])) mode0)

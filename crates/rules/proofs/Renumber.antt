@@ -10,8 +10,8 @@ use native.Mathlib.Omega.{arith}
 use lib.Dec.{eqb}
 use Rattle.btor.specs.Operators.{Reading}
 use Rattle.rules.specs.Lists.{allTrue, every, All}
-use Rattle.rules.specs.Table.{Kind, Const, Read, Write, Word, Ult, Ext, Ite, Eq, And, Or, Not, State, Next, Input, Bad, Node, kindCode, is, with, operandsAs, operands, operandWordsAs, moved, renumberAs, renumber}
-use Rattle.rules.specs.Check.{unusedAs, mayServe, sortedAs}
+use Rattle.rules.specs.Table.{Kind, Const, Read, Write, Word, Ult, Ext, Ite, Eq, And, Or, Not, State, Next, Input, Bad, Node, is, with, operandsAs, operands, operandWordsAs, moved, renumberAs, renumber}
+use Rattle.rules.specs.Check.{unusedAs, mayServe}
 use Rattle.rules.specs.Value.{Value, meaning, worth, value}
 use Rattle.rules.specs.Renumber.{RenumberedRow, RenumberedTwice, RenumberedNone, SameMap, SameButOperands, Solves, Down, Carries, SolvedAlong, ValuesAlong, ThreeAlong, FiveAlong}
 use Rattle.rules.proofs.Base.{cases-cond, all-map, is-kind, kind-is}

@@ -10,10 +10,10 @@ use lib.ListN.{getD}
 use lib.Dec.{eqb, lit<}
 use borrow.Author.Tests.{eqb-true, le-ltb}
 use Rattle.btor.specs.Operators.{Reading, rust, compute, both, complement, choose, less, bit}
-use Rattle.btor.specs.Sorts.{width, ones}
+use Rattle.btor.specs.Sorts.{width, ones, wordCode}
 use Rattle.rules.specs.Lists.{All}
 use Rattle.rules.specs.Refusal.{Out, refused, done, OfDone}
-use Rattle.rules.specs.Table.{Node, nodeAt, decode, constant}
+use Rattle.rules.specs.Table.{Next, Node, nodeAt, decode, constant}
 use Rattle.rules.specs.Check.{check, checkNodes, checkSequentials, checkBads}
 use Rattle.rules.specs.Value.{Value, number, num, worth, value, over, overIn, Fits}
 use Rattle.rules.specs.Walk.{St, Mark, fresh, replaced, Question, Held}
@@ -329,7 +329,7 @@ steppedFacts =
       looked = 2;
       passed = 0;
       marks = replaced 0 ∷ [];
-      row = decode (row 20 2 7 0 0 0);
+      row = decode (row Next wordCode 7 0 0 0);
     }
 
 stepped-computed : OfDone (λ a. factsOf (6 ∷ []) 8 a ≡ steppedFacts) (outcome house impl steppedCall)

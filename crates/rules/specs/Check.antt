@@ -9,7 +9,7 @@ use mathlib.Core.Option.{Option, none}
 use mathlib.Core.List.{List, [], _∷_}
 use lib.ListN.{length}
 use lib.Dec.{ltb, leb, eqb}
-use Rattle.btor.specs.Sorts.{sortOf}
+use Rattle.btor.specs.Sorts.{sortOf, bitCode, wordCode, memoryCode}
 use Rattle.btor.specs.declared.node_type.CodedSort.{CodedSort}
 use Rattle.btor.specs.declared.node_type.CodedSort.the-variants.{Known, Unknown}
 use Rattle.rules.specs.Lists.{allTrue, every, member}
@@ -74,21 +74,21 @@ mayServe nd = not (is Next nd || is Bad nd)
 
 -- the table of kinds; at x is node x
 abbrev pub sortedAs : (ℕ → Node) → Kind → Node → List Bool
-sortedAs at Const nd = not (eqb (nd .sort) 3) ∷ fits (nd .sort) (nd .a) ∷ []
-sortedAs at Read nd = eqb (nd .sort) 2 ∷ eqb (at (nd .a) .sort) 3 ∷ eqb (at (nd .b) .sort) 2 ∷ []
-sortedAs at Write nd = eqb (nd .sort) 3 ∷ eqb (at (nd .a) .sort) 3 ∷ eqb (at (nd .b) .sort) 2 ∷ eqb (at (nd .c) .sort) 2 ∷ []
-sortedAs at (Word op) nd = eqb (nd .sort) 2 ∷ eqb (at (nd .a) .sort) 2 ∷ eqb (at (nd .b) .sort) 2 ∷ []
-sortedAs at Ult nd = eqb (nd .sort) 1 ∷ eqb (at (nd .a) .sort) (at (nd .b) .sort) ∷ not (eqb (at (nd .a) .sort) 3) ∷ []
-sortedAs at Ext nd = eqb (nd .sort) 2 ∷ eqb (at (nd .a) .sort) (nd .b) ∷ not (eqb (at (nd .a) .sort) 3) ∷ []
-sortedAs at Ite nd = eqb (at (nd .a) .sort) 1 ∷ eqb (at (nd .b) .sort) (nd .sort) ∷ eqb (at (nd .c) .sort) (nd .sort) ∷ []
-sortedAs at Eq nd = eqb (nd .sort) 1 ∷ eqb (at (nd .a) .sort) (at (nd .b) .sort) ∷ not (eqb (at (nd .a) .sort) 3) ∷ []
-sortedAs at And nd = not (eqb (nd .sort) 3) ∷ eqb (at (nd .a) .sort) (nd .sort) ∷ eqb (at (nd .b) .sort) (nd .sort) ∷ []
-sortedAs at Or nd = not (eqb (nd .sort) 3) ∷ eqb (at (nd .a) .sort) (nd .sort) ∷ eqb (at (nd .b) .sort) (nd .sort) ∷ []
-sortedAs at Not nd = not (eqb (nd .sort) 3) ∷ eqb (at (nd .a) .sort) (nd .sort) ∷ []
+sortedAs at Const nd = not (eqb (nd .sort) memoryCode) ∷ fits (nd .sort) (nd .a) ∷ []
+sortedAs at Read nd = eqb (nd .sort) wordCode ∷ eqb (at (nd .a) .sort) memoryCode ∷ eqb (at (nd .b) .sort) wordCode ∷ []
+sortedAs at Write nd = eqb (nd .sort) memoryCode ∷ eqb (at (nd .a) .sort) memoryCode ∷ eqb (at (nd .b) .sort) wordCode ∷ eqb (at (nd .c) .sort) wordCode ∷ []
+sortedAs at (Word op) nd = eqb (nd .sort) wordCode ∷ eqb (at (nd .a) .sort) wordCode ∷ eqb (at (nd .b) .sort) wordCode ∷ []
+sortedAs at Ult nd = eqb (nd .sort) bitCode ∷ eqb (at (nd .a) .sort) (at (nd .b) .sort) ∷ not (eqb (at (nd .a) .sort) memoryCode) ∷ []
+sortedAs at Ext nd = eqb (nd .sort) wordCode ∷ eqb (at (nd .a) .sort) (nd .b) ∷ not (eqb (at (nd .a) .sort) memoryCode) ∷ []
+sortedAs at Ite nd = eqb (at (nd .a) .sort) bitCode ∷ eqb (at (nd .b) .sort) (nd .sort) ∷ eqb (at (nd .c) .sort) (nd .sort) ∷ []
+sortedAs at Eq nd = eqb (nd .sort) bitCode ∷ eqb (at (nd .a) .sort) (at (nd .b) .sort) ∷ not (eqb (at (nd .a) .sort) memoryCode) ∷ []
+sortedAs at And nd = not (eqb (nd .sort) memoryCode) ∷ eqb (at (nd .a) .sort) (nd .sort) ∷ eqb (at (nd .b) .sort) (nd .sort) ∷ []
+sortedAs at Or nd = not (eqb (nd .sort) memoryCode) ∷ eqb (at (nd .a) .sort) (nd .sort) ∷ eqb (at (nd .b) .sort) (nd .sort) ∷ []
+sortedAs at Not nd = not (eqb (nd .sort) memoryCode) ∷ eqb (at (nd .a) .sort) (nd .sort) ∷ []
 sortedAs at State nd = cond (eqb (nd .b) 1) (eqb (at (nd .a) .sort) (nd .sort) ∷ []) []
 sortedAs at Next nd = is State (at (nd .a)) ∷ eqb (at (nd .a) .sort) (nd .sort) ∷ eqb (at (nd .b) .sort) (nd .sort) ∷ []
 sortedAs at Input nd = []
-sortedAs at Bad nd = eqb (nd .sort) 1 ∷ eqb (at (nd .a) .sort) 1 ∷ []
+sortedAs at Bad nd = eqb (nd .sort) bitCode ∷ eqb (at (nd .a) .sort) bitCode ∷ []
 
 -- among any nodes, and in a table
 abbrev pub rule5At : (ℕ → Node) → Node → Bool

@@ -12,9 +12,11 @@ use mathlib.Core.Logic.{_≢_}
 use mathlib.Core.Bool.{true, false}
 use mathlib.Core.List.{List, [], _∷_, _++_}
 use lib.ListN.{length}
+use Rattle.btor.specs.Operators.{Add}
+use Rattle.btor.specs.Sorts.{bitCode, wordCode}
 use Rattle.rules.specs.Lists.{All}
 use Rattle.rules.specs.Refusal.{Out, refused, done, refuse, _>>=_, OfDone}
-use Rattle.rules.specs.Table.{Next, Row, Node, nodeAt, is, with}
+use Rattle.rules.specs.Table.{Const, Word, Ult, Not, State, Next, Input, Row, Node, nodeAt, is, with}
 use Rattle.rules.specs.Model.{Model, Mode, modelOf}
 use Rattle.rules.specs.Legal.{AllLegal, Sequential, Once}
 use Rattle.rules.specs.Walk.{St, Mark, fresh, kept, replaced, Held, start, setRow}
@@ -113,14 +115,14 @@ pub record Fails (m : Model) (refusal : Out St) : Type 0 where
 
 -- the Next 3 of a sum, whose second word is 1 as that of a State with an init is; 4 has that Next as its operand
 abbrev pub summed : Model
-summed = modelAt (row 1 2 3 0 0 0 ∷ row 1 2 4 0 0 0 ∷ row 4 2 0 1 0 0 ∷ row 20 2 2 1 0 0 ∷ row 18 2 3 0 0 0 ∷ []) (3 ∷ []) []
+summed = modelAt (row Const wordCode 3 0 0 0 ∷ row Const wordCode 4 0 0 0 ∷ row (Word Add) wordCode 0 1 0 0 ∷ row Next wordCode 2 1 0 0 ∷ row Not wordCode 3 0 0 0 ∷ []) (3 ∷ []) []
 
 unfoldable pub TableNeeded : Type 0
 TableNeeded = All (Sequential (summed .table)) (summed .sequentials) × Once (summed .table) (summed .sequentials) × Fails summed (refuse 9 1 3) × (Others summed mode0 → ⊥)
 
 -- the Next 2 of a State without an init, which takes the input 7
 abbrev pub takingRows : List Row
-takingRows = row 19 2 0 0 0 0 ∷ row 1 2 5 0 0 0 ∷ row 20 2 0 1 0 0 ∷ []
+takingRows = row State wordCode 0 0 0 0 ∷ row Const wordCode 5 0 0 0 ∷ row Next wordCode 0 1 0 0 ∷ []
 
 abbrev pub taking : Model
 taking = modelAt takingRows (2 ∷ []) (7 ∷ [])
@@ -130,7 +132,7 @@ SixNeeded = AllLegal (taking .table) × Once (taking .table) (taking .sequential
 
 -- two Nexts of the State 1: 3, the State itself, is dropped, and 4 is kept
 abbrev pub twiceRows : List Row
-twiceRows = row 1 2 3 0 0 0 ∷ row 19 2 0 1 0 0 ∷ row 1 2 5 0 0 0 ∷ row 20 2 1 1 0 0 ∷ row 20 2 1 2 0 0 ∷ []
+twiceRows = row Const wordCode 3 0 0 0 ∷ row State wordCode 0 1 0 0 ∷ row Const wordCode 5 0 0 0 ∷ row Next wordCode 1 1 0 0 ∷ row Next wordCode 1 2 0 0 ∷ []
 
 abbrev pub twice : Model
 twice = modelAt twiceRows (3 ∷ 4 ∷ []) []
@@ -141,7 +143,7 @@ SevenNeeded = AllLegal (twice .table) × All (Sequential (twice .table)) (twice 
 -- ---- 0 an Input, 1 a State that takes the input 9, 2 whether 0 is below 1, 3 a State whose init is 2, 4 a one, 5 the Next of 3, which is 4. Under minimise,
 -- with the reply that 2 is always true. By the visit of 3 the input is taken and the question put, and 7, the shared true, is its init.
 abbrev pub keptRows : List Row
-keptRows = row 21 2 0 0 0 1 ∷ row 19 2 0 0 0 0 ∷ row 12 1 0 1 0 0 ∷ row 19 1 2 1 0 0 ∷ row 1 1 1 0 0 0 ∷ row 20 1 3 4 0 0 ∷ []
+keptRows = row Input wordCode 0 0 0 1 ∷ row State wordCode 0 0 0 0 ∷ row Ult bitCode 0 1 0 0 ∷ row State bitCode 2 1 0 0 ∷ row Const bitCode 1 0 0 0 ∷ row Next bitCode 3 4 0 0 ∷ []
 
 abbrev pub keptCall : Call
 keptCall = callOf 1 (record { rows = keptRows; sequentials = 5 ∷ []; initial = []; later = []; inputs = 9 ∷ []; replies = 1 ∷ [] })

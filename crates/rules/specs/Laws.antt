@@ -9,7 +9,7 @@ use mathlib.Core.Option.{some}
 use mathlib.Core.List.{List, map}
 use lib.ListN.{length}
 use Rattle.btor.specs.Operators.{Reading}
-use Rattle.btor.specs.Sorts.{width}
+use Rattle.btor.specs.Sorts.{width, memoryCode}
 use Rattle.rules.specs.Lists.{All}
 use Rattle.rules.specs.Refusal.{done}
 use Rattle.rules.specs.Table.{Const, Ext, State, Next, Node, constant, coded, nodeAt, is, operands}
@@ -63,7 +63,7 @@ ReplacementFits =
 pub record MadeRow (nd : Node) : Type 0 where
   pub const : nd ≡ constant (nd .sort) (nd .a)
   pub known : knownSort (nd .sort) ≡ true
-  pub sort : nd .sort ≢ 3
+  pub sort : nd .sort ≢ memoryCode
   pub fits : nd .a < 2 ^ width (nd .sort)
 
 abbrev pub AllMade : List Node → St → Type 0

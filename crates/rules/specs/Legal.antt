@@ -10,7 +10,7 @@ use mathlib.Core.Option.{none}
 use mathlib.Core.List.{List, [], _∷_}
 use lib.ListN.{length, getD}
 use Rattle.rules.specs.Lists.{All}
-use Rattle.rules.specs.Table.{Next, Bad, Row, Node, nodeAt, operands}
+use Rattle.rules.specs.Table.{Next, Input, Bad, Row, Node, nodeAt, operands, kindCode}
 use Rattle.rules.specs.Model.{Model, Mode, modelOf}
 use Rattle.rules.specs.Refusal.{done}
 use Rattle.rules.specs.Whole.{Folded, fold, run}
@@ -50,7 +50,7 @@ pub record WellFormed (m : Model) : Type 0 where
 
 -- past the rows stands an Input
 abbrev pub noRow : Row
-noRow = record { code = 21; sort = 0; a = 0; b = 0; c = 0; name = 0 }
+noRow = record { code = kindCode Input; sort = 0; a = 0; b = 0; c = 0; name = 0 }
 
 abbrev pub rowAt : List Row → ℕ → Row
 rowAt rs k = getD rs k noRow

@@ -4,7 +4,7 @@
 --     highestMode, modeOf
 -- Assumes nothing.
 use Prim.Native.Nat.{ℕ, _+_, _*_, _/_, _%_}
-use mathlib.Core.Bool.{Bool, false}
+use mathlib.Core.Bool.{Bool}
 use lib.Dec.{eqb}
 use Rattle.btor.specs.Operators.{rust}
 use Rattle.rules.specs.Model.{Mode}

@@ -10,9 +10,10 @@ use mathlib.Core.Bool.{false}
 use mathlib.Core.Option.{some}
 use mathlib.Core.List.{List, [], _∷_}
 use lib.ListN.{length}
+use Rattle.btor.specs.Sorts.{bitCode, wordCode}
 use Rattle.rules.specs.Lists.{All}
 use Rattle.rules.specs.Refusal.{done, OfDone}
-use Rattle.rules.specs.Table.{Eq, And, Input, Bad, Row, Node, constant}
+use Rattle.rules.specs.Table.{Const, Ext, Eq, And, Or, Input, Bad, Row, Node, constant}
 use Rattle.rules.specs.Model.{Model, modelOf}
 use Rattle.rules.specs.Check.{check}
 use Rattle.rules.specs.Legal.{AllLegal, WellFormed}
@@ -39,20 +40,20 @@ OwnSortsOfCall =
 
 -- ---- And and Or of 3 and 5 in each sort in which they make a constant
 abbrev pub Stays : ℕ → Type 0
-Stays s = Tells (onTwo 16 s 3 5) (oneMade s 1) (only 2 8) 0 0 × Tells (onTwo 17 s 3 5) (oneMade s 7) (only 2 8) 0 0
+Stays s = Tells (onTwo And s 3 5) (oneMade s 1) (only 2 8) 0 0 × Tells (onTwo Or s 3 5) (oneMade s 7) (only 2 8) 0 0
 
 unfoldable pub EachSort : Type 0
-EachSort = All Stays (2 ∷ 11 ∷ 12 ∷ 13 ∷ 14 ∷ 15 ∷ 16 ∷ 17 ∷ [])
+EachSort = All Stays (wordCode ∷ 11 ∷ 12 ∷ 13 ∷ 14 ∷ 15 ∷ 16 ∷ 17 ∷ [])
 
 -- ---- 0 and 1 the bytes 3 and 5, 2 their And, 3 an Input, 4 whether 2 is 3, 5 a Bad on that: 8 is the byte 1, made for 2
 abbrev pub byteCall : ℕ → Call
-byteCall mode = callOf mode (record { rows = onTwo 16 11 3 5; sequentials = []; initial = 5 ∷ []; later = []; inputs = []; replies = [] })
+byteCall mode = callOf mode (record { rows = onTwo And 11 3 5; sequentials = []; initial = 5 ∷ []; later = []; inputs = []; replies = [] })
 
 pub record ByteStays (a : Accepted) : Type 0 where
   pub count : a .folded .state .made ≡ 1
   pub byte : a .folded .state .rows 8 ≡ constant 11 1
   pub mark : a .folded .state .mark 2 ≡ replaced 8
-  pub row : a .folded .state .rows 4 ≡ node Eq 1 8 3 0
+  pub row : a .folded .state .rows 4 ≡ node Eq bitCode 8 3 0
 
 -- what the theorem says of it, each part by its own name
 pub record Said (a : Accepted) : Type 0 where
@@ -80,24 +81,24 @@ input s x nm = record { kind = Input; sort = s; a = x; b = 0; c = 0; name = nm }
 module _ (t : List Node) (σ : St) where
   pub record CanFail : Type 0 where
     -- 8 is the Rust's word of 64 bits
-    pub replacements : SortsKept t (setRow σ 8 (constant 2 1)) → ⊥
-    pub five : AllPass 1 t (setRow σ 8 (constant 2 1)) → ⊥
+    pub replacements : SortsKept t (setRow σ 8 (constant wordCode 1)) → ⊥
+    pub five : AllPass 1 t (setRow σ 8 (constant wordCode 1)) → ⊥
     -- 9 is made for no node
     pub made : MadeFor t (addConst σ 9 11 1) → ⊥
     -- 8 is too wide for a byte, or no Const
     pub wide : AllPass 1 t (setRow σ 8 (constant 11 256)) → ⊥
     pub constants : AllMade t (setRow σ 8 (node Input 11 1 0 0)) → ⊥
     -- 4 has an unused word, 3 an unknown sort; the name of 3 is past the last
-    pub three : AllPass 1 t (setRow σ 4 (node Eq 1 8 3 1)) → ⊥
-    pub known : AllPass 1 t (setRow (setRow σ 3 (input 9 0 1)) 4 (node Eq 1 3 3 0)) → ⊥
+    pub three : AllPass 1 t (setRow σ 4 (node Eq bitCode 8 3 1)) → ⊥
+    pub known : AllPass 1 t (setRow (setRow σ 3 (input 9 0 1)) 4 (node Eq bitCode 3 3 0)) → ⊥
     pub named : AllPass 0 t σ → ⊥
     -- 2 names itself, 4 a constant that is not in use, and a Bad
     pub before : AllPass 1 t (setRow σ 2 (node And 11 0 2 0)) → ⊥
-    pub used : AllPass 1 t (setRow (setRow σ 9 (constant 11 1)) 4 (node Eq 1 9 3 0)) → ⊥
-    pub serves : AllPass 1 t (setRow (setRow σ 3 (node Bad 1 6 0 0)) 4 (node Eq 1 6 3 0)) → ⊥
+    pub used : AllPass 1 t (setRow (setRow σ 9 (constant 11 1)) 4 (node Eq bitCode 9 3 0)) → ⊥
+    pub serves : AllPass 1 t (setRow (setRow σ 3 (node Bad bitCode 6 0 0)) 4 (node Eq bitCode 6 3 0)) → ⊥
     -- 4, not visited, compares a byte with a bit, or names itself
-    pub unvisitedFive : AllPass 1 t (setRow (setMark σ 4 fresh) 4 (node Eq 1 8 6 0)) → ⊥
-    pub unvisitedBefore : AllPass 1 t (setRow (setMark σ 4 fresh) 4 (node Eq 1 4 4 0)) → ⊥
+    pub unvisitedFive : AllPass 1 t (setRow (setMark σ 4 fresh) 4 (node Eq bitCode 8 6 0)) → ⊥
+    pub unvisitedBefore : AllPass 1 t (setRow (setMark σ 4 fresh) 4 (node Eq bitCode 4 4 0)) → ⊥
     -- 3 has another unused word or name than was given
     pub words : AllKept t (setRow σ 3 (input 11 7 1)) → ⊥
     pub names : AllKept t (setRow σ 3 (input 11 0 0)) → ⊥
@@ -111,7 +112,7 @@ modelAt rs ss initial = modelOf rs (λ k. false) ss initial [] [] []
 
 -- 5: the And of sort 11 has a 0 of sort 12 on its left, which takes its place
 abbrev pub mixedRows : List Row
-mixedRows = row 1 12 0 0 0 0 ∷ row 1 11 5 0 0 0 ∷ row 16 11 0 1 0 0 ∷ row 21 11 0 0 0 1 ∷ row 15 1 2 3 0 0 ∷ row 22 1 4 0 0 0 ∷ []
+mixedRows = row Const 12 0 0 0 0 ∷ row Const 11 5 0 0 0 ∷ row And 11 0 1 0 0 ∷ row Input 11 0 0 0 1 ∷ row Eq bitCode 2 3 0 0 ∷ row Bad bitCode 4 0 0 0 ∷ []
 
 abbrev pub mixed : Model
 mixed = modelAt mixedRows [] (5 ∷ [])
@@ -123,7 +124,7 @@ FiveNeeded =
 
 -- 3: an Input with an unused word
 abbrev pub unreadRows : List Row
-unreadRows = row 21 2 7 0 0 1 ∷ []
+unreadRows = row Input wordCode 7 0 0 1 ∷ []
 
 abbrev pub unread : Model
 unread = modelAt unreadRows [] []
@@ -135,7 +136,7 @@ ThreeNeeded =
 
 -- 6: 2, an And of 1 and 1, is listed as a Next; 1, an Ext of the byte 0, is taken for its state and replaced by that
 abbrev pub listedRows : List Row
-listedRows = row 1 11 3 0 0 0 ∷ row 13 2 0 11 0 0 ∷ row 16 2 1 1 0 0 ∷ []
+listedRows = row Const 11 3 0 0 0 ∷ row Ext wordCode 0 11 0 0 ∷ row And wordCode 1 1 0 0 ∷ []
 
 abbrev pub listed : Model
 listed = modelAt listedRows (2 ∷ []) []

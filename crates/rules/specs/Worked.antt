@@ -7,8 +7,10 @@
 use Prim.Native.Nat.{ℕ, _<_, _^_}
 use mathlib.Core.Path.{_≡_}
 use mathlib.Core.List.{List, [], _∷_}
+use Rattle.btor.specs.Operators.{Add}
+use Rattle.btor.specs.Sorts.{bitCode, wordCode, memoryCode}
 use Rattle.rules.specs.Refusal.{OfDone}
-use Rattle.rules.specs.Table.{Row}
+use Rattle.rules.specs.Table.{Const, Read, Write, Word, Ult, Ite, Eq, And, Or, Not, State, Next, Input, Bad, Row}
 use Rattle.rules.specs.Value.{Value, number}
 use Rattle.rules.specs.Walk.{Question, Held}
 use Rattle.rules.specs.Questions.{alwaysTrue, alwaysFalse, equal, satisfiable, several, question}
@@ -29,8 +31,10 @@ pub record Follows (a : Accepted) : Type 0 where
 -- Where 1 has 0's value and 3 the input's: 4, 8, 9 and 10 are never 1, 6 always is, and 7 is 0's value.
 abbrev pub replacedRows : List Row
 replacedRows =
-    row 21 2 0 0 0 1 ∷ row 19 2 0 1 0 0 ∷ row 20 2 1 1 0 0 ∷ row 19 2 0 0 0 0 ∷ row 12 1 1 0 0 0 ∷ row 18 1 4 0 0 0 ∷ row 16 1 5 5 0 0
-    ∷ row 14 2 4 0 1 0 ∷ row 12 1 7 0 0 0 ∷ row 12 1 0 3 0 0 ∷ row 17 1 8 9 0 0 ∷ row 22 1 4 0 0 0 ∷ row 22 1 6 0 0 0 ∷ row 22 1 10 0 0 0 ∷ []
+    row Input wordCode 0 0 0 1 ∷ row State wordCode 0 1 0 0 ∷ row Next wordCode 1 1 0 0 ∷ row State wordCode 0 0 0 0
+    ∷ row Ult bitCode 1 0 0 0 ∷ row Not bitCode 4 0 0 0 ∷ row And bitCode 5 5 0 0 ∷ row Ite wordCode 4 0 1 0
+    ∷ row Ult bitCode 7 0 0 0 ∷ row Ult bitCode 0 3 0 0 ∷ row Or bitCode 8 9 0 0
+    ∷ row Bad bitCode 4 0 0 0 ∷ row Bad bitCode 6 0 0 0 ∷ row Bad bitCode 10 0 0 0 ∷ []
 
 abbrev pub replacedCall : Call
 replacedCall =
@@ -69,7 +73,9 @@ ReplacedWorked = OfDone Replaced (outcome house impl replacedCall)
 
 -- ---- 0 an Input, 1 a zero, 2 its sum with itself, 3 whether 0 is below 2, 4 whether 0 is below itself, 5 and 6 Bads: neither can be 1
 abbrev pub severalRows : List Row
-severalRows = row 21 2 0 0 0 1 ∷ row 1 2 0 0 0 0 ∷ row 4 2 1 1 0 0 ∷ row 12 1 0 2 0 0 ∷ row 12 1 0 0 0 0 ∷ row 22 1 3 0 0 0 ∷ row 22 1 4 0 0 0 ∷ []
+severalRows =
+    row Input wordCode 0 0 0 1 ∷ row Const wordCode 0 0 0 0 ∷ row (Word Add) wordCode 1 1 0 0
+    ∷ row Ult bitCode 0 2 0 0 ∷ row Ult bitCode 0 0 0 0 ∷ row Bad bitCode 3 0 0 0 ∷ row Bad bitCode 4 0 0 0 ∷ []
 
 abbrev pub severalCall : Call
 severalCall = callOf 4 (record { rows = severalRows; sequentials = []; initial = 5 ∷ 6 ∷ []; later = []; inputs = []; replies = 1 ∷ [] })
@@ -94,8 +100,9 @@ SeveralWorked = OfDone Several (outcome house impl severalCall)
 -- 7 a State with init 5, 8 its Next, which is 6, 9 whether 7 is 0, 10 a Bad: the Read is the Input, so the State's next value is
 abbrev pub steppedRows : List Row
 steppedRows =
-    row 21 2 0 0 0 1 ∷ row 19 3 0 0 0 0 ∷ row 1 2 5 0 0 0 ∷ row 1 2 7 0 0 0 ∷ row 3 3 1 2 0 0 ∷ row 3 3 4 3 3 0 ∷ row 2 2 5 2 0 0
-    ∷ row 19 2 2 1 0 0 ∷ row 20 2 7 6 0 0 ∷ row 15 1 7 0 0 0 ∷ row 22 1 9 0 0 0 ∷ []
+    row Input wordCode 0 0 0 1 ∷ row State memoryCode 0 0 0 0 ∷ row Const wordCode 5 0 0 0 ∷ row Const wordCode 7 0 0 0
+    ∷ row Write memoryCode 1 2 0 0 ∷ row Write memoryCode 4 3 3 0 ∷ row Read wordCode 5 2 0 0
+    ∷ row State wordCode 2 1 0 0 ∷ row Next wordCode 7 6 0 0 ∷ row Eq bitCode 7 0 0 0 ∷ row Bad bitCode 9 0 0 0 ∷ []
 
 abbrev pub steppedCall : Call
 steppedCall = callOf 0 (record { rows = steppedRows; sequentials = 8 ∷ []; initial = []; later = 10 ∷ []; inputs = []; replies = 2 ∷ [] })
