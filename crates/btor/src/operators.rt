@@ -1,8 +1,10 @@
-// The operators of BTOR2 on numbers of at most 64 bits, as optimize.rs folds them.
+// The operators of BTOR2 on numbers of at most 64 bits, as optimize.rs folds them, and Div and Rem as the standard has them.
 use crate::node_type::NodeType;
+use crate::reading::Reading;
 ghost use mathlib.Core.Path.{_≡_};
 ghost use Prim.Native.Nat.{_+_, _-_, _*_, _/_, _%_, _^_};
-ghost use Rattle.btor.specs.Operators.{Op, Reading, compute, both, either, complement, less, same, extend, magnitude, overflow};
+ghost use Rattle.btor.specs.Operators.{Op, rust, standard, compute, both, either, complement, less, same, extend, magnitude, overflow};
+ghost use Rattle.btor.specs.Readings.{readingIs};
 ghost use Rattle.btor.specs.Sorts.{widthOf};
 
 const HALF: u64 = 9223372036854775808;
@@ -11,14 +13,14 @@ const LIMB: u64 = 65536;
 
 // The sum modulo 2^64.
 pub fn wrapping_add(left: u64, right: u64) -> u64
-    ensures { λ r. ⌜ r ≡ compute Reading.rust Op.Add left right ⌝ }
+    ensures { λ r. ⌜ r ≡ compute rust Op.Add left right ⌝ }
 {
     std::num::wrapping_add_u64(left, right)
 }
 
 // The difference modulo 2^64.
 pub fn wrapping_sub(left: u64, right: u64) -> u64
-    ensures { λ r. ⌜ r ≡ compute Reading.rust Op.Sub left right ⌝ }
+    ensures { λ r. ⌜ r ≡ compute rust Op.Sub left right ⌝ }
 {
     std::num::wrapping_sub_u64(left, right)
 }
@@ -47,7 +49,7 @@ fn add_columns(sum: u64, left: u64, right: u64) -> u64
 
 // The product modulo 2^64: columns 0 to 3, ten pieces.
 pub fn wrapping_mul(left: u64, right: u64) -> u64
-    ensures { λ r. ⌜ r ≡ compute Reading.rust Op.Mul left right ⌝ }
+    ensures { λ r. ⌜ r ≡ compute rust Op.Mul left right ⌝ }
 {
     let middle = low_piece(left >> 16, right >> 16) as u64;
     let high = add_columns(add_columns(middle, left >> 32, right), left, right >> 32);
@@ -77,7 +79,7 @@ fn overflows(left: u64, right: u64) -> bool
 
 // Signed, toward zero; by 0, and for the least by -1, the greatest.
 pub fn btor_u64_div(left: u64, right: u64) -> u64
-    ensures { λ r. ⌜ r ≡ compute Reading.rust Op.Div left right ⌝ }
+    ensures { λ r. ⌜ r ≡ compute rust Op.Div left right ⌝ }
 {
     if right == 0 {
         return HALF - 1;
@@ -101,28 +103,68 @@ pub fn btor_u64_div(left: u64, right: u64) -> u64
 
 // Unsigned; by 0, all ones.
 pub fn btor_u64_divu(left: u64, right: u64) -> u64
-    ensures { λ r. ⌜ r ≡ compute Reading.rust Op.Divu left right ⌝ }
+    ensures { λ r. ⌜ r ≡ compute rust Op.Divu left right ⌝ }
 {
     if right == 0 { u64::MAX } else { left / right }
 }
 
 // Unsigned; by 0, all ones.
 pub fn btor_u64_rem(left: u64, right: u64) -> u64
-    ensures { λ r. ⌜ r ≡ compute Reading.rust Op.Rem left right ⌝ }
+    ensures { λ r. ⌜ r ≡ compute rust Op.Rem left right ⌝ }
 {
     if right == 0 { u64::MAX } else { left % right }
 }
 
+// The standard's Div: by 0, all ones for a dividend of 0 or more and 1 for a negative one; the least by -1 is the least.
+pub fn standard_div(left: u64, right: u64) -> u64
+    ensures { λ r. ⌜ r ≡ compute standard Op.Div left right ⌝ }
+{
+    if right == 0 {
+        if left < HALF { u64::MAX } else { 1 }
+    } else if overflows(left, right) {
+        HALF
+    } else {
+        btor_u64_div(left, right)
+    }
+}
+
+// The standard's Rem: by 0, the dividend.
+pub fn standard_rem(left: u64, right: u64) -> u64
+    ensures { λ r. ⌜ r ≡ compute standard Op.Rem left right ⌝ }
+{
+    if right == 0 { left } else { left % right }
+}
+
+// Div in either reading.
+pub fn div(how: Reading, left: u64, right: u64) -> u64
+    ensures { λ r. ⌜ r ≡ compute (readingIs how) Op.Div left right ⌝ }
+{
+    match how {
+        Reading::Rust => btor_u64_div(left, right),
+        Reading::Standard => standard_div(left, right),
+    }
+}
+
+// Rem in either reading.
+pub fn rem(how: Reading, left: u64, right: u64) -> u64
+    ensures { λ r. ⌜ r ≡ compute (readingIs how) Op.Rem left right ⌝ }
+{
+    match how {
+        Reading::Rust => btor_u64_rem(left, right),
+        Reading::Standard => standard_rem(left, right),
+    }
+}
+
 // To the left; by 64 or more, 0.
 pub fn btor_u64_sll(left: u64, right: u64) -> u64
-    ensures { λ r. ⌜ r ≡ compute Reading.rust Op.Sll left right ⌝ }
+    ensures { λ r. ⌜ r ≡ compute rust Op.Sll left right ⌝ }
 {
     if right < 64 { left << right } else { 0 }
 }
 
 // To the right, zeros coming in; by 64 or more, 0.
 pub fn btor_u64_srl(left: u64, right: u64) -> u64
-    ensures { λ r. ⌜ r ≡ compute Reading.rust Op.Srl left right ⌝ }
+    ensures { λ r. ⌜ r ≡ compute rust Op.Srl left right ⌝ }
 {
     if right < 64 { left >> right } else { 0 }
 }
