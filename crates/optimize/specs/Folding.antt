@@ -9,7 +9,7 @@ use mathlib.Core.Bool.{Bool, true, false, cond}
 use mathlib.Core.Option.{Option, none, some}
 use mathlib.Core.List.{List}
 use lib.Dec.{eqb}
-use Rattle.btor.specs.Operators.{Op, rust, compute, less}
+use Rattle.btor.specs.Operators.{Op, Reading, rust, compute, less}
 use Rattle.rules.specs.Refusal.{Out}
 use Rattle.rules.specs.Table.{Kind, Const, Read, Write, Word, Ult, Ext, Ite, Eq, And, Or, Not, State, Next, Input, Bad, is}
 use Rattle.rules.specs.Walk.{St}
@@ -143,6 +143,7 @@ pub record Falls (n made : ℕ) (R : List ℕ) : Type 0 where
 abbrev pub lookIs : Look → (ℕ → memory.Found) → memory.Found
 lookIs Look.End go = memory.lost
 lookIs (Look.Hit v) go = memory.hit v
+lookIs Look.Stop go = record { value = none; looked = 1; unsettled = 0 }
 lookIs (Look.Settled m) go = memory.past 0 (go m)
 lookIs (Look.Unsettled m) go = memory.past 1 (go m)
 
@@ -150,10 +151,11 @@ lookIs (Look.Unsettled m) go = memory.past 1 (go m)
 abbrev pub GoesOn : ℕ → ℕ → Look → Type 0
 GoesOn n k Look.End = Unit
 GoesOn n k (Look.Hit v) = k < n
+GoesOn n k Look.Stop = k < n
 GoesOn n k (Look.Settled m) = (k < n) × (m < n → m < k)
 GoesOn n k (Look.Unsettled m) = (k < n) × (m < n → m < k)
 
 -- what a look at the place k says
-pub record LooksAt (n made : ℕ) (R : List ℕ) (k address : ℕ) (r : Look) : Type 0 where
-  pub says : (go : ℕ → memory.Found) → lookIs r go ≡ memory.lookAt rust (rowsOf n made R) go address (rowsOf n made R k)
+pub record LooksAt (how : Reading) (n made : ℕ) (R : List ℕ) (k address : ℕ) (r : Look) : Type 0 where
+  pub says : (go : ℕ → memory.Found) → lookIs r go ≡ memory.lookAt how (rowsOf n made R) go address (rowsOf n made R k)
   pub goes-on : GoesOn n k r

@@ -24,6 +24,7 @@ use crate::solve::solve_boolean_binary;
 use crate::solve::solve_ite_bit;
 use crate::solve::solve_ite_word;
 use btor::node_type::NodeType;
+use btor::reading::Reading;
 use tables::node::NodeKind;
 ghost use Prim.Native.Nat.{_<_};
 ghost use mathlib.Core.Path.{_≡_};
@@ -212,7 +213,7 @@ fn read(
     let Constant::Imm(x) = address else {
         return settle(given, result, scratch, counters, node, Folded::Stays);
     };
-    let search = find_in_memory(given, result, counters[0], memory, x);
+    let search = find_in_memory(Reading::Rust, given, result, counters[0], memory, x);
     let found = search.found;
     match found {
         Found::Value(value) => {
