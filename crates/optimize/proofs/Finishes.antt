@@ -14,7 +14,7 @@ use Rattle.btor.specs.Operators.{rust}
 use Rattle.rules.specs.Model.{Mode}
 use Rattle.rules.specs.Limits.{modeOf}
 use Rattle.rules.specs.Refusal.{Out, done, refuse}
-use Rattle.rules.specs.Table.{Kind, fits}
+use Rattle.rules.specs.Table.{fits}
 use Rattle.rules.specs.Walk.{St, Held, setInputs, addHeld, addTally}
 use Rattle.rules.specs.Fold.{Fold, stays, swap, make, constOf}
 use Rattle.rules.specs.Memory as rules
@@ -25,13 +25,15 @@ use Rattle.rules.proofs.Base.{no}
 use Rattle.optimize.specs.declared.walk.Walk.{Walk}
 use Rattle.optimize.specs.declared.walk.Visited.{Visited}
 use Rattle.optimize.specs.declared.fold.Constant.{Constant}
+use Rattle.optimize.specs.declared.fold.Rule.{Rule}
+use Rattle.optimize.specs.declared.fold.Single.{Single}
 use Rattle.optimize.specs.declared.memory.Found.{Found}
 use Rattle.optimize.specs.declared.memory.Search.{Search}
 use Rattle.optimize.specs.Bounds.{countOf}
 use Rattle.rules.specs.Sections.{wordOf}
 use Rattle.optimize.specs.View.{nodeOf, tableOf, rowsOf, view, outcomeOf, constantIs, waysIn, Meets}
-use Rattle.optimize.specs.Folding.{foldTwo, asksBit, valueIs, searchIs}
-use Rattle.optimize.specs.Process.{isStays, isRead, thenAsk, settleThen, bitOf, takeOf, afterOne, afterTwo, foldedTwo, afterIte}
+use Rattle.optimize.specs.Folding.{foldTwo, foldOne, asksBit, valueIs, searchIs}
+use Rattle.optimize.specs.Process.{isStays, thenAsk, settleThen, bitOf, takeOf, afterOne, afterTwo, afterRead, afterIte}
 use Rattle.optimize.proofs.Steps.{table-length}
 use Rattle.optimize.proofs.Asks.{is-stay, chain-bit-more, chain-two}
 
@@ -63,26 +65,23 @@ pub bit-asks : (g : List ℕ) (ways : Ways) (k : ℕ) (b : Bool) (σ : St) → b
 bit-asks g ways k b σ e = rw e
 
 -- ---- the rows of the state are those of the buffers
-module _ (h : List Held) (g inputs replies R S : List ℕ) (w : Walk) (ways : Ways) (k : ℕ) (K : Kind) where
-  pub one-is : (x : ℕ) (F : Fold) → F ≡ Rattle.optimize.specs.Folding.foldOne K (countOf g) (wordOf g k 1) (constOf (rowsOf (countOf g) (w .made) R) x)
-      → settle (tableOf g) ways k (view h g inputs replies R S w) F ≡ afterOne g ways K (view h g inputs replies R S w) k x
+module _ (h : List Held) (g inputs replies R S : List ℕ) (w : Walk) (ways : Ways) (k : ℕ) where
+  pub one-is : (rule : Single) (x : ℕ) (F : Fold) → F ≡ foldOne rule (countOf g) (wordOf g k 1) (constOf (rowsOf (countOf g) (w .made) R) x)
+      → settle (tableOf g) ways k (view h g inputs replies R S w) F ≡ afterOne g ways rule (view h g inputs replies R S w) k x
   unfolding view
-  one-is x F e = ap (settle (tableOf g) ways k (view h g inputs replies R S w)) e
+  one-is rule x F e = ap (settle (tableOf g) ways k (view h g inputs replies R S w)) e
 
-  pub two-is : (x y : ℕ) (F : Fold) (b : Bool) → isRead K ≡ false → F ≡ foldTwo K (countOf g) (wordOf g k 1) x y (constOf (rowsOf (countOf g) (w .made) R) x) (constOf (rowsOf (countOf g) (w .made) R) y)
-      → b ≡ asksBit K (wordOf g k 1)
-      → finish (tableOf g) ways k (view h g inputs replies R S w) F (bitOf g ways k b) ≡ afterTwo g ways K (view h g inputs replies R S w) k x y
-  unfolding view afterTwo
-  two-is x y F b r e d =
-      let σ : St = view h g inputs replies R S w in
-      rw (e, d) (sym (ap (λ z. elim z [ true ↦ forward (tableOf g) ways k σ x (constOf (σ .rows) y) | false ↦ foldedTwo g ways K σ k x y ]) r))
+  pub two-is : (rule : Rule) (x y : ℕ) (F : Fold) (b : Bool)
+      → F ≡ foldTwo (ways .reading) rule (countOf g) (wordOf g k 1) x y (constOf (rowsOf (countOf g) (w .made) R) x) (constOf (rowsOf (countOf g) (w .made) R) y)
+      → b ≡ asksBit rule (wordOf g k 1)
+      → finish (tableOf g) ways k (view h g inputs replies R S w) F (bitOf g ways k b) ≡ afterTwo g ways rule (view h g inputs replies R S w) k x y
+  unfolding view
+  two-is rule x y F b e d = rw (e, d)
 
-  pub read-is : (x y : ℕ) (c : Option ℕ) → isRead K ≡ true → c ≡ constOf (rowsOf (countOf g) (w .made) R) y
-      → forward (tableOf g) ways k (view h g inputs replies R S w) x c ≡ afterTwo g ways K (view h g inputs replies R S w) k x y
-  unfolding view afterTwo
-  read-is x y c r e =
-      let σ : St = view h g inputs replies R S w in
-      rw e (sym (ap (λ z. elim z [ true ↦ forward (tableOf g) ways k σ x (constOf (σ .rows) y) | false ↦ foldedTwo g ways K σ k x y ]) r))
+  pub read-is : (x y : ℕ) (c : Option ℕ) → c ≡ constOf (rowsOf (countOf g) (w .made) R) y
+      → forward (tableOf g) ways k (view h g inputs replies R S w) x c ≡ afterRead g ways (view h g inputs replies R S w) k x y
+  unfolding view
+  read-is x y c e = ap (forward (tableOf g) ways k (view h g inputs replies R S w) x) e
 
 -- ---- forwarding
 module _ (h : List Held) (g inputs replies dumps R S : List ℕ) (word : ℕ) (w : Walk) (k m : ℕ) where

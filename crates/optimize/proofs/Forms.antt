@@ -18,8 +18,11 @@ use Rattle.optimize.specs.declared.form.Form.{Form}
 use Rattle.optimize.specs.Bounds.{countOf}
 use Rattle.rules.specs.Sections.{wordOf}
 use Rattle.optimize.specs.View.{nodeOf, tableOf, waysIn}
-use Rattle.optimize.specs.Folding.{foldTwo, foldOne, asksBit}
-use Rattle.optimize.specs.Process.{formOf, afterOne, afterTwo, takeOf, processOf, oneOf, twoOf, threeOf, chosenOf, iteOf, stepOf, byForm, Before}
+use Rattle.optimize.specs.declared.fold.Rule.{Rule}
+use Rattle.optimize.specs.declared.fold.Single.{Single}
+use Rattle.optimize.specs.Folding.{operatorOf}
+use Rattle.optimize.specs.Process.{formOf, formAt, afterOne, afterTwo, afterRead, takeOf, processOf, oneOf, twoThen, twoOf, threeOf, chosenOf, iteOf, stepOf, byForm, Before}
+use Rattle.optimize.proofs.FoldLaws.{op-is}
 use Rattle.optimize.proofs.Steps.{table-length}
 use Rattle.optimize.proofs.Walks.{node-at}
 
@@ -40,15 +43,18 @@ module _ (g dumps replies : List ℕ) (word : ℕ) (vis : St → ℕ → Out (St
   abbrev byKind : Kind → Out (St × ℕ)
   byKind K = process (tableOf g) ways vis K σ k (nodeOf g k)
 
-  one-is : (K : Kind) → oneOf g ways vis K σ k ≡ (visit1 vis σ k (nodeOf g k) >>= λ p. afterOne g ways K (p .0) k (p .1))
+  one-is : (rule : Single) → oneOf g ways vis rule σ k ≡ (visit1 vis σ k (nodeOf g k) >>= λ p. afterOne g ways rule (p .0) k (p .1))
   unfolding visit1
-  one-is K = sym (assoc (vis σ (wordOf g k 2)) _ _)
+  one-is rule = sym (assoc (vis σ (wordOf g k 2)) _ _)
 
-  two-is : (K : Kind) → twoOf g ways vis K σ k ≡ (visit2 vis σ k (nodeOf g k) >>= λ p. afterTwo g ways K (p .0) k (p .1 .0) (p .1 .1))
+  two-then : (after : St → ℕ → ℕ → ℕ → Out (St × ℕ)) → twoThen g ways vis after σ k ≡ (visit2 vis σ k (nodeOf g k) >>= λ p. after (p .0) k (p .1 .0) (p .1 .1))
   unfolding visit2
-  two-is K =
+  two-then after =
       sym (assoc (vis σ (wordOf g k 2)) _ _
       ∙ bind-same (vis σ (wordOf g k 2)) _ _ (λ p. assoc (vis (p .0) (wordOf g k 3)) _ _))
+
+  two-is : (rule : Rule) → twoOf g ways vis rule σ k ≡ (visit2 vis σ k (nodeOf g k) >>= λ p. afterTwo g ways rule (p .0) k (p .1 .0) (p .1 .1))
+  two-is rule = two-then (afterTwo g ways rule)
 
   three-is : threeOf g ways vis σ k ≡ byKind Write
   unfolding process visit3
@@ -71,35 +77,34 @@ module _ (g dumps replies : List ℕ) (word : ℕ) (vis : St → ℕ → Out (St
   unfolding process
   step-is = refl
 
-  state-is : (b : Bool) → eqb (wordOf g k 3) 1 ≡ b → byForm g ways vis (cond b Form.One Form.Free) State σ k ≡ byKind State
-  unfolding byForm process unary foldOne
-  state-is true e = one-is State ∙ sym (ap (λ b. elim b [ true ↦ unary (tableOf g) ways vis σ k (nodeOf g k) (λ x. stays) | false ↦ takeOf g ways σ k ]) e)
+  state-is : (b : Bool) → eqb (wordOf g k 3) 1 ≡ b → byForm g ways vis (cond b (Form.One Single.Stays) Form.Free) σ k ≡ byKind State
+  unfolding byForm process unary
+  state-is true e = one-is Single.Stays ∙ sym (ap (λ b. elim b [ true ↦ unary (tableOf g) ways vis σ k (nodeOf g k) (λ x. stays) | false ↦ takeOf g ways σ k ]) e)
   state-is false e = sym (ap (λ b. elim b [ true ↦ unary (tableOf g) ways vis σ k (nodeOf g k) (λ x. stays) | false ↦ takeOf g ways σ k ]) e)
 
-  pub form-is : (K : Kind) → byForm g ways vis (formOf K (wordOf g k 3)) K σ k ≡ byKind K
-  unfolding byForm formOf process unary binary foldOne foldTwo asksBit afterTwo
+  pub form-is : (K : Kind) → byForm g ways vis (formOf K (wordOf g k 3)) σ k ≡ byKind K
+  unfolding byForm formOf process unary binary
   form-is Const = rw (table-length g)
-  form-is Read = two-is Read
+  form-is Read = two-then (afterRead g ways)
   form-is Write = three-is
-  form-is (Word op) = two-is (Word op)
-  form-is Ult = two-is Ult ∙ rw (table-length g)
-  form-is Ext = one-is Ext
+  form-is (Word op) = two-is (Rule.Word (operatorOf op)) ∙ simp (op-is op)
+  form-is Ult = two-is Rule.Ult ∙ rw (table-length g)
+  form-is Ext = one-is Single.Ext
   form-is Ite = ite-is
-  form-is Eq = two-is Eq ∙ rw (table-length g)
-  form-is And = two-is And ∙ rw (table-length g)
-  form-is Or = two-is Or
-  form-is Not = one-is Not ∙ rw (table-length g)
+  form-is Eq = two-is Rule.Eq ∙ rw (table-length g)
+  form-is And = two-is Rule.And ∙ rw (table-length g)
+  form-is Or = two-is Rule.Or
+  form-is Not = one-is Single.Not ∙ rw (table-length g)
   form-is State = state-is (eqb (wordOf g k 3) 1) refl
   form-is Next = step-is
   form-is Input = refl
-  form-is Bad = one-is Bad
+  form-is Bad = one-is Single.Stays
 
-  -- where the node's kind is K and its form F
-  pub process-is : (K : Kind) (F : Form) → K ≡ kindOf (wordOf g k 0) → F ≡ formOf K (wordOf g k 3) → byForm g ways vis F K σ k ≡ processOf g ways vis σ k
-  process-is K F e d = ap (λ z. byForm g ways vis z K σ k) d ∙ form-is K ∙ ap byKind e
+  pub process-is : (F : Form) → F ≡ formAt g k → byForm g ways vis F σ k ≡ processOf g ways vis σ k
+  process-is F d = ap (λ z. byForm g ways vis z σ k) d ∙ form-is (kindOf (wordOf g k 0))
 
 -- ---- operands before their node
-before-state : (g : List ℕ) (k : ℕ) (b : Bool) → All (λ x. x < k) (cond b (wordOf g k 2 ∷ []) []) → Before (cond b Form.One Form.Free) g k
+before-state : (g : List ℕ) (k : ℕ) (b : Bool) → All (λ x. x < k) (cond b (wordOf g k 2 ∷ []) []) → Before (cond b (Form.One Single.Stays) Form.Free) g k
 before-state g k true h = h .0
 before-state g k false h = tt
 
@@ -121,7 +126,7 @@ before-form g k Next h = (h .0, h .1 .0)
 before-form g k Input h = tt
 before-form g k Bad h = h .0
 
-pub before-is : (g : List ℕ) (k : ℕ) → AllLegal (tableOf g) → k < countOf g → (K : Kind) (F : Form) → K ≡ kindOf (wordOf g k 0) → F ≡ formOf K (wordOf g k 3) → Before F g k
-before-is g k legal l K F e d =
+pub before-is : (g : List ℕ) (k : ℕ) → AllLegal (tableOf g) → k < countOf g → (F : Form) → F ≡ formAt g k → Before F g k
+before-is g k legal l F d =
     let b : All (λ x. x < k) (operandsAs (kindOf (wordOf g k 0)) (nodeOf g k)) = subst (λ (nd : Node). All (λ x. x < k) (operandsAs (nd .kind) nd)) (node-at g k l) (legal k (omega (arith, table-length g)) .before) in
-    subst (λ z. Before z g k) (sym d) (before-form g k K (subst (λ J. All (λ x. x < k) (operandsAs J (nodeOf g k))) (sym e) b))
+    subst (λ z. Before z g k) (sym d) (before-form g k (kindOf (wordOf g k 0)) b)

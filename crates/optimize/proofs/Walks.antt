@@ -10,7 +10,7 @@ use lib.ListN.{getD}
 use lib.Dec.{eqb}
 use borrow.Author.Tests.{ne-eqb}
 use Rattle.rules.specs.Refusal.{Out, refused, done, _>>=_}
-use Rattle.rules.specs.Table.{Kind, with, nodeAt, unknown}
+use Rattle.rules.specs.Table.{with, nodeAt, unknown}
 use Rattle.rules.specs.Walk.{St, Mark, fresh, kept, replaced, Held, setRow}
 use Rattle.rules.specs.Fold.{stays, swap, constOf}
 use Rattle.rules.specs.Visit.{Ways, Branch, left, right, undecided, branch, settle, process, visitMarked, visit}
@@ -19,10 +19,11 @@ use Rattle.tables.specs.Refusals.{refusalOf}
 use Rattle.optimize.specs.declared.walk.Walk.{Walk}
 use Rattle.optimize.specs.declared.walk.Visited.{Visited}
 use Rattle.optimize.specs.declared.fold.Constant.{Constant}
+use Rattle.optimize.specs.declared.fold.Single.{Single}
 use Rattle.optimize.specs.Bounds.{countOf}
 use Rattle.rules.specs.Sections.{wordOf}
 use Rattle.optimize.specs.View.{nodeOf, tableOf, rowsOf, markOf, markBy, view, outcomeOf, constantIs, Meets}
-use Rattle.optimize.specs.Process.{afterOne, afterTwo, afterIte, visitOf, processOf, oneOf, twoOf, threeOf, leftOf, rightOf, bothOf, chosenOf, iteOf, valueOf, stepOf}
+use Rattle.optimize.specs.Process.{afterOne, afterIte, visitOf, processOf, oneOf, twoThen, threeOf, leftOf, rightOf, bothOf, chosenOf, iteOf, valueOf, stepOf}
 use Rattle.optimize.proofs.Views.{mark-below, firsts-at}
 
 -- ---- outcomes
@@ -100,11 +101,11 @@ module _ (g inputs replies R S : List ℕ) (w : Walk) (ways : Ways) (f : ℕ) (h
 -- ---- the members of the cycle: a refused visit
 module _ (g inputs replies : List ℕ) (ways : Ways) (vis : St → ℕ → Out (St × ℕ)) (k : ℕ) (σ : St) (r : Visited) (R S Q T : List ℕ) where
   module _ (a : ℕ) (z : Refusal) (m : Meets g inputs replies r R S (vis σ a)) (d : r ≡ Visited.Refused z) where
-    pub one-stop : (K : Kind) → a ≡ wordOf g k 2 → Meets g inputs replies r Q T (oneOf g ways vis K σ k)
-    one-stop K e = stops g inputs replies vis σ r R S Q T a (wordOf g k 2) e _ z m d
+    pub one-stop : (rule : Single) → a ≡ wordOf g k 2 → Meets g inputs replies r Q T (oneOf g ways vis rule σ k)
+    one-stop rule e = stops g inputs replies vis σ r R S Q T a (wordOf g k 2) e _ z m d
 
-    pub two-stop : (K : Kind) → a ≡ wordOf g k 2 → Meets g inputs replies r Q T (twoOf g ways vis K σ k)
-    two-stop K e = stops g inputs replies vis σ r R S Q T a (wordOf g k 2) e _ z m d
+    pub two-stop : (after : St → ℕ → ℕ → ℕ → Out (St × ℕ)) → a ≡ wordOf g k 2 → Meets g inputs replies r Q T (twoThen g ways vis after σ k)
+    two-stop after e = stops g inputs replies vis σ r R S Q T a (wordOf g k 2) e _ z m d
 
     pub three-stop : a ≡ wordOf g k 2 → Meets g inputs replies r Q T (threeOf g ways vis σ k)
     three-stop e = stops g inputs replies vis σ r R S Q T a (wordOf g k 2) e _ z m d
@@ -128,8 +129,8 @@ module _ (g inputs replies : List ℕ) (ways : Ways) (vis : St → ℕ → Out (
     step-stop e = stops g inputs replies vis σ r R S Q T a (wordOf g k 2) e _ z m d
 
   module _ (a : ℕ) (σ₁ : St) (x : ℕ) (v : vis σ a ≡ done (σ₁, x)) (b : ℕ) (z : Refusal) (m : Meets g inputs replies r R S (vis σ₁ b)) (d : r ≡ Visited.Refused z) where
-    pub two-stop-2 : (K : Kind) → a ≡ wordOf g k 2 → b ≡ wordOf g k 3 → Meets g inputs replies r Q T (twoOf g ways vis K σ k)
-    two-stop-2 K e i =
+    pub two-stop-2 : (after : St → ℕ → ℕ → ℕ → Out (St × ℕ)) → a ≡ wordOf g k 2 → b ≡ wordOf g k 3 → Meets g inputs replies r Q T (twoThen g ways vis after σ k)
+    two-stop-2 after e i =
         goes g inputs replies vis σ r R S Q T a (wordOf g k 2) e _ (σ₁, x) v
         (stops g inputs replies vis σ₁ r R S Q T b (wordOf g k 3) i _ z m d)
 
@@ -166,10 +167,10 @@ module _ (g : List ℕ) (ways : Ways) (vis : St → ℕ → Out (St × ℕ)) (k 
   at : (b : ℕ) → a ≡ b → vis σ b ≡ done (σ₁, x)
   at b e = ap (vis σ) (sym e) ∙ va
 
-  pub one-go : (K : Kind) (b c : ℕ) (τ : St) (o : Out (St × ℕ)) → a ≡ wordOf g k 2 → b ≡ wordOf g k 3 → c ≡ wordOf g k 4
-      → τ ≡ setRow σ₁ k (with (nodeOf g k) x b c) → o ≡ afterOne g ways K τ k x → o ≡ oneOf g ways vis K σ k
-  one-go K b c τ o ea eb ec et eo =
-      eo ∙ ap (λ s. afterOne g ways K s k x) (et ∙ ap₂ (λ y z. setRow σ₁ k (with (nodeOf g k) x y z)) eb ec)
+  pub one-go : (rule : Single) (b c : ℕ) (τ : St) (o : Out (St × ℕ)) → a ≡ wordOf g k 2 → b ≡ wordOf g k 3 → c ≡ wordOf g k 4
+      → τ ≡ setRow σ₁ k (with (nodeOf g k) x b c) → o ≡ afterOne g ways rule τ k x → o ≡ oneOf g ways vis rule σ k
+  one-go rule b c τ o ea eb ec et eo =
+      eo ∙ ap (λ s. afterOne g ways rule s k x) (et ∙ ap₂ (λ y z. setRow σ₁ k (with (nodeOf g k) x y z)) eb ec)
       ∙ sym (bind-done (vis σ (wordOf g k 2)) (σ₁, x) _ (at (wordOf g k 2) ea))
 
   pub left-go : (c d : ℕ) (τ : St) (o : Out (St × ℕ)) → a ≡ wordOf g k 3 → d ≡ wordOf g k 4
@@ -194,10 +195,10 @@ module _ (g : List ℕ) (ways : Ways) (vis : St → ℕ → Out (St × ℕ)) (k 
     at-2 : (c : ℕ) → b ≡ c → vis σ₁ c ≡ done (σ₂, y)
     at-2 c e = ap (vis σ₁) (sym e) ∙ vb
 
-    pub two-go : (K : Kind) (c : ℕ) (τ : St) (o : Out (St × ℕ)) → a ≡ wordOf g k 2 → b ≡ wordOf g k 3 → c ≡ wordOf g k 4
-        → τ ≡ setRow σ₂ k (with (nodeOf g k) x y c) → o ≡ afterTwo g ways K τ k x y → o ≡ twoOf g ways vis K σ k
-    two-go K c τ o ea eb ec et eo =
-        eo ∙ ap (λ s. afterTwo g ways K s k x y) (et ∙ ap (λ z. setRow σ₂ k (with (nodeOf g k) x y z)) ec)
+    pub two-go : (after : St → ℕ → ℕ → ℕ → Out (St × ℕ)) (c : ℕ) (τ : St) (o : Out (St × ℕ)) → a ≡ wordOf g k 2 → b ≡ wordOf g k 3 → c ≡ wordOf g k 4
+        → τ ≡ setRow σ₂ k (with (nodeOf g k) x y c) → o ≡ after τ k x y → o ≡ twoThen g ways vis after σ k
+    two-go after c τ o ea eb ec et eo =
+        eo ∙ ap (λ s. after s k x y) (et ∙ ap (λ z. setRow σ₂ k (with (nodeOf g k) x y z)) ec)
         ∙ sym (bind-done (vis σ (wordOf g k 2)) (σ₁, x) _ (at (wordOf g k 2) ea)
         ∙ bind-done (vis σ₁ (wordOf g k 3)) (σ₂, y) _ (at-2 (wordOf g k 3) eb))
 

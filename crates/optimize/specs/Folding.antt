@@ -1,28 +1,27 @@
--- What a kind folds to by its operands' numbers, in one definition for two operands and one for one, and what the walk down the Writes answers.
---     foldTwo, foldOne     the rules' folds by the kind            foldsTwo, foldsOne    the kinds that fold so
---     asksBit, bitAsked    which of them minimise asks about
+-- What the code's operators and rules are, and what the walk down the Writes answers.
+--     opIs, operatorOf     an operator of the code and of the rules
+--     foldTwo, foldOne     what a rule folds to by its operands' numbers     asksBit   the rules that minimise asks about
 --     searchIs             the rules' account of a search          Falls                 the rows of Writes point down
 -- Assumes nothing.
 use Prim.Native.Nat.{ℕ, _<_}
 use mathlib.Core.Path.{_≡_}
-use mathlib.Core.Bool.{Bool, true, false, cond}
+use mathlib.Core.Bool.{Bool, true, false}
 use mathlib.Core.Option.{Option, none, some}
 use mathlib.Core.List.{List}
 use lib.Dec.{eqb}
-use Rattle.btor.specs.Operators.{Op, Reading, rust, compute, less}
-use Rattle.rules.specs.Refusal.{Out}
-use Rattle.rules.specs.Table.{Kind, Const, Read, Write, Word, Ult, Ext, Ite, Eq, And, Or, Not, State, Next, Input, Bad, is}
-use Rattle.rules.specs.Walk.{St}
+use Rattle.btor.specs.Operators.{Op, Reading, compute, less}
+use Rattle.rules.specs.Table.{Write, is}
 use Rattle.rules.specs.Fold.{Fold, stays, foldWords, foldTest, foldEq, foldNot, foldExt, foldAnd, foldOr}
 use Rattle.rules.specs.Memory as memory
-use Rattle.rules.specs.Questions.{quiet, askBit}
 use Rattle.optimize.specs.View.{rowsOf}
 use Rattle.optimize.specs.declared.fold.Operator.{Operator}
+use Rattle.optimize.specs.declared.fold.Rule.{Rule}
+use Rattle.optimize.specs.declared.fold.Single.{Single}
 use Rattle.optimize.specs.declared.memory.Found.{Found}
 use Rattle.optimize.specs.declared.memory.Search.{Search}
 use Rattle.optimize.specs.declared.memory.Look.{Look}
 
--- ---- folds by the kind
+-- ---- folds
 abbrev pub opIs : Operator → Op
 opIs Operator.Add = Op.Add
 opIs Operator.Sub = Op.Sub
@@ -33,99 +32,37 @@ opIs Operator.Rem = Op.Rem
 opIs Operator.Sll = Op.Sll
 opIs Operator.Srl = Op.Srl
 
+abbrev pub operatorOf : Op → Operator
+operatorOf Op.Add = Operator.Add
+operatorOf Op.Sub = Operator.Sub
+operatorOf Op.Mul = Operator.Mul
+operatorOf Op.Divu = Operator.Divu
+operatorOf Op.Div = Operator.Div
+operatorOf Op.Rem = Operator.Rem
+operatorOf Op.Sll = Operator.Sll
+operatorOf Op.Srl = Operator.Srl
+
 -- a node of two operands x and y, cx and cy their numbers where they are constants, among n nodes
-unfoldable pub foldTwo : Kind → ℕ → ℕ → ℕ → ℕ → Option ℕ → Option ℕ → Fold
-foldTwo (Word op) n sort x y cx cy = foldWords sort (compute rust op) cx cy
-foldTwo Ult n sort x y cx cy = foldTest n less cx cy
-foldTwo Eq n sort x y cx cy = foldEq n x y cx cy
-foldTwo And n sort x y cx cy = foldAnd sort x y cx cy
-foldTwo Or n sort x y cx cy = foldOr sort x y cx cy
-foldTwo Const n sort x y cx cy = stays
-foldTwo Read n sort x y cx cy = stays
-foldTwo Write n sort x y cx cy = stays
-foldTwo Ext n sort x y cx cy = stays
-foldTwo Ite n sort x y cx cy = stays
-foldTwo Not n sort x y cx cy = stays
-foldTwo State n sort x y cx cy = stays
-foldTwo Next n sort x y cx cy = stays
-foldTwo Input n sort x y cx cy = stays
-foldTwo Bad n sort x y cx cy = stays
+abbrev pub foldTwo : Reading → Rule → ℕ → ℕ → ℕ → ℕ → Option ℕ → Option ℕ → Fold
+foldTwo how (Rule.Word f) n sort x y cx cy = foldWords sort (compute how (opIs f)) cx cy
+foldTwo how Rule.Ult n sort x y cx cy = foldTest n less cx cy
+foldTwo how Rule.Eq n sort x y cx cy = foldEq n x y cx cy
+foldTwo how Rule.And n sort x y cx cy = foldAnd sort x y cx cy
+foldTwo how Rule.Or n sort x y cx cy = foldOr sort x y cx cy
 
 -- a node of one operand, cx its number where it is a constant
-unfoldable pub foldOne : Kind → ℕ → ℕ → Option ℕ → Fold
-foldOne Ext n sort cx = foldExt sort cx
-foldOne Not n sort cx = foldNot n sort cx
-foldOne Const n sort cx = stays
-foldOne Read n sort cx = stays
-foldOne Write n sort cx = stays
-foldOne (Word op) n sort cx = stays
-foldOne Ult n sort cx = stays
-foldOne Ite n sort cx = stays
-foldOne Eq n sort cx = stays
-foldOne And n sort cx = stays
-foldOne Or n sort cx = stays
-foldOne State n sort cx = stays
-foldOne Next n sort cx = stays
-foldOne Input n sort cx = stays
-foldOne Bad n sort cx = stays
-
--- the kinds whose two operands are visited and then fold by foldTwo
-abbrev pub foldsTwo : Kind → Bool
-foldsTwo (Word op) = true
-foldsTwo Ult = true
-foldsTwo Eq = true
-foldsTwo And = true
-foldsTwo Or = true
-foldsTwo Const = false
-foldsTwo Read = false
-foldsTwo Write = false
-foldsTwo Ext = false
-foldsTwo Ite = false
-foldsTwo Not = false
-foldsTwo State = false
-foldsTwo Next = false
-foldsTwo Input = false
-foldsTwo Bad = false
-
--- the kinds whose one operand is visited and then folds by foldOne; b is the row's second word: a State has an init where it is 1
-abbrev pub foldsOne : Kind → ℕ → Bool
-foldsOne Ext b = true
-foldsOne Not b = true
-foldsOne Bad b = true
-foldsOne State b = eqb b 1
-foldsOne Const b = false
-foldsOne Read b = false
-foldsOne Write b = false
-foldsOne (Word op) b = false
-foldsOne Ult b = false
-foldsOne Ite b = false
-foldsOne Eq b = false
-foldsOne And b = false
-foldsOne Or b = false
-foldsOne Next b = false
-foldsOne Input b = false
+abbrev pub foldOne : Single → ℕ → ℕ → Option ℕ → Fold
+foldOne Single.Ext n sort cx = foldExt sort cx
+foldOne Single.Not n sort cx = foldNot n sort cx
+foldOne Single.Stays n sort cx = stays
 
 -- "Ult; Eq; And of sort 1" ask 1, then 2
-unfoldable pub asksBit : Kind → ℕ → Bool
-asksBit Ult sort = true
-asksBit Eq sort = true
-asksBit And sort = eqb sort 1
-asksBit Const sort = false
-asksBit Read sort = false
-asksBit Write sort = false
-asksBit (Word op) sort = false
-asksBit Ext sort = false
-asksBit Ite sort = false
-asksBit Or sort = false
-asksBit Not sort = false
-asksBit State sort = false
-asksBit Next sort = false
-asksBit Input sort = false
-asksBit Bad sort = false
-
--- what is asked about node k where asksBit says so
-abbrev pub bitAsked : ℕ → ℕ → ℕ → Bool → St → Out (St × Fold)
-bitAsked replyCount n k asks = cond asks (askBit replyCount n k quiet) quiet
+abbrev pub asksBit : Rule → ℕ → Bool
+asksBit (Rule.Word f) sort = false
+asksBit Rule.Ult sort = true
+asksBit Rule.Eq sort = true
+asksBit Rule.And sort = eqb sort 1
+asksBit Rule.Or sort = false
 
 -- ---- the walk down the Writes
 abbrev pub valueIs : Found → Option ℕ

@@ -16,6 +16,8 @@ use Rattle.rules.specs.Questions.{quiet, askOr, askBit, askIte}
 use Rattle.rules.specs.Visit.{Ways, Branch, left, right, undecided, branch, settle, finish, forward, takeInput, process, visit}
 use Rattle.tables.specs.Refusals.{refusalOf}
 use Rattle.optimize.specs.declared.fold.Folded.{Folded}
+use Rattle.optimize.specs.declared.fold.Rule.{Rule}
+use Rattle.optimize.specs.declared.fold.Single.{Single}
 use Rattle.optimize.specs.declared.smt_solver.Asked.{Asked}
 use Rattle.optimize.specs.declared.form.Form.{Form}
 use Rattle.optimize.specs.declared.form.Choice.{Choice}
@@ -23,7 +25,7 @@ use Rattle.optimize.specs.Bounds.{countOf}
 use Rattle.rules.specs.Sections.{wordOf}
 use Rattle.optimize.specs.View.{nodeOf, tableOf, view, foldIs}
 use Rattle.optimize.specs.Counters.{walkIn, refusedIn, refusalIn}
-use Rattle.optimize.specs.Folding.{foldTwo, foldOne, asksBit}
+use Rattle.optimize.specs.Folding.{operatorOf, foldTwo, foldOne, asksBit}
 
 -- the branch that a condition chooses
 abbrev pub choiceIs : Choice → Branch
@@ -60,37 +62,24 @@ thenAsk count q x y f o = o >>= λ p. thenAskAt count q x y f (p .1) (p .0)
 -- ---- what a visit does with a node, by its kind and its word b
 unfoldable pub formOf : Kind → ℕ → Form
 formOf Const b = Form.Constant
-formOf Read b = Form.Two
+formOf Read b = Form.Read
 formOf Write b = Form.Three
-formOf (Word op) b = Form.Two
-formOf Ult b = Form.Two
-formOf Ext b = Form.One
+formOf (Word op) b = Form.Two (Rule.Word (operatorOf op))
+formOf Ult b = Form.Two Rule.Ult
+formOf Ext b = Form.One Single.Ext
 formOf Ite b = Form.Choice
-formOf Eq b = Form.Two
-formOf And b = Form.Two
-formOf Or b = Form.Two
-formOf Not b = Form.One
-formOf State b = cond (eqb b 1) Form.One Form.Free
+formOf Eq b = Form.Two Rule.Eq
+formOf And b = Form.Two Rule.And
+formOf Or b = Form.Two Rule.Or
+formOf Not b = Form.One Single.Not
+formOf State b = cond (eqb b 1) (Form.One Single.Stays) Form.Free
 formOf Next b = Form.Step
 formOf Input b = Form.Given
-formOf Bad b = Form.One
+formOf Bad b = Form.One Single.Stays
 
-abbrev pub isRead : Kind → Bool
-isRead Const = false
-isRead Read = true
-isRead Write = false
-isRead (Word op) = false
-isRead Ult = false
-isRead Ext = false
-isRead Ite = false
-isRead Eq = false
-isRead And = false
-isRead Or = false
-isRead Not = false
-isRead State = false
-isRead Next = false
-isRead Input = false
-isRead Bad = false
+-- of node k of the table
+abbrev pub formAt : List ℕ → ℕ → Form
+formAt g k = formOf (kindOf (wordOf g k 0)) (wordOf g k 3)
 
 module _ (g : List ℕ) (ways : Ways) where
   -- settle what the questions gave
@@ -102,16 +91,16 @@ module _ (g : List ℕ) (ways : Ways) where
   bitOf k b = cond b (askBit (ways .replyCount) (countOf g) k quiet) quiet
 
   -- after the only operand was visited and put into the row
-  abbrev pub afterOne : Kind → St → ℕ → ℕ → Out (St × ℕ)
-  afterOne K σ k x = settle (tableOf g) ways k σ (foldOne K (countOf g) (wordOf g k 1) (constOf (σ .rows) x))
+  abbrev pub afterOne : Single → St → ℕ → ℕ → Out (St × ℕ)
+  afterOne rule σ k x = settle (tableOf g) ways k σ (foldOne rule (countOf g) (wordOf g k 1) (constOf (σ .rows) x))
 
-  -- after two operands of a node that is no Read were visited and put into its row
-  abbrev pub foldedTwo : Kind → St → ℕ → ℕ → ℕ → Out (St × ℕ)
-  foldedTwo K σ k x y =
-      finish (tableOf g) ways k σ (foldTwo K (countOf g) (wordOf g k 1) x y (constOf (σ .rows) x) (constOf (σ .rows) y)) (bitOf k (asksBit K (wordOf g k 1)))
+  -- after the two operands of a node that folds were visited and put into its row, and of a Read
+  abbrev pub afterTwo : Rule → St → ℕ → ℕ → ℕ → Out (St × ℕ)
+  afterTwo rule σ k x y =
+      finish (tableOf g) ways k σ (foldTwo (ways .reading) rule (countOf g) (wordOf g k 1) x y (constOf (σ .rows) x) (constOf (σ .rows) y)) (bitOf k (asksBit rule (wordOf g k 1)))
 
-  unfoldable pub afterTwo : Kind → St → ℕ → ℕ → ℕ → Out (St × ℕ)
-  afterTwo K σ k x y = elim (isRead K) [ true ↦ forward (tableOf g) ways k σ x (constOf (σ .rows) y) | false ↦ foldedTwo K σ k x y ]
+  abbrev pub afterRead : St → ℕ → ℕ → ℕ → Out (St × ℕ)
+  afterRead σ k x y = forward (tableOf g) ways k σ x (constOf (σ .rows) y)
 
   -- after all three operands of an Ite
   abbrev pub afterIte : St → ℕ → ℕ → ℕ → ℕ → Out (St × ℕ)
@@ -132,16 +121,23 @@ module _ (g : List ℕ) (ways : Ways) where
     abbrev pub processOf : St → ℕ → Out (St × ℕ)
     processOf σ k = process (tableOf g) ways vis (kindOf (wordOf g k 0)) σ k (nodeOf g k)
 
-    abbrev pub oneOf : Kind → St → ℕ → Out (St × ℕ)
-    oneOf K σ k = do
+    abbrev pub oneOf : Single → St → ℕ → Out (St × ℕ)
+    oneOf rule σ k = do
       (σ₁, x) ← vis σ (wordOf g k 2)
-      afterOne K (setRow σ₁ k (with (nodeOf g k) x (wordOf g k 3) (wordOf g k 4))) k x
+      afterOne rule (setRow σ₁ k (with (nodeOf g k) x (wordOf g k 3) (wordOf g k 4))) k x
 
-    abbrev pub twoOf : Kind → St → ℕ → Out (St × ℕ)
-    twoOf K σ k = do
+    -- two operands, then what comes after them
+    abbrev pub twoThen : (St → ℕ → ℕ → ℕ → Out (St × ℕ)) → St → ℕ → Out (St × ℕ)
+    twoThen after σ k = do
       (σ₁, x) ← vis σ (wordOf g k 2)
       (σ₂, y) ← vis σ₁ (wordOf g k 3)
-      afterTwo K (setRow σ₂ k (with (nodeOf g k) x y (wordOf g k 4))) k x y
+      after (setRow σ₂ k (with (nodeOf g k) x y (wordOf g k 4))) k x y
+
+    abbrev pub twoOf : Rule → St → ℕ → Out (St × ℕ)
+    twoOf rule σ k = twoThen (afterTwo rule) σ k
+
+    abbrev pub readOf : St → ℕ → Out (St × ℕ)
+    readOf σ k = twoThen afterRead σ k
 
     abbrev pub threeOf : St → ℕ → Out (St × ℕ)
     threeOf σ k = do
@@ -188,23 +184,25 @@ module _ (g : List ℕ) (ways : Ways) where
       (σ₁, state) ← vis σ (wordOf g k 2)
       valueOf σ₁ k
 
-    unfoldable pub byForm : Form → Kind → St → ℕ → Out (St × ℕ)
-    byForm Form.Constant K σ k = constOut σ k
-    byForm Form.Given K σ k = settle (tableOf g) ways k σ stays
-    byForm Form.Free K σ k = takeOf σ k
-    byForm Form.One K σ k = oneOf K σ k
-    byForm Form.Two K σ k = twoOf K σ k
-    byForm Form.Three K σ k = threeOf σ k
-    byForm Form.Choice K σ k = iteOf σ k
-    byForm Form.Step K σ k = stepOf σ k
+    unfoldable pub byForm : Form → St → ℕ → Out (St × ℕ)
+    byForm Form.Constant σ k = constOut σ k
+    byForm Form.Given σ k = settle (tableOf g) ways k σ stays
+    byForm Form.Free σ k = takeOf σ k
+    byForm (Form.One rule) σ k = oneOf rule σ k
+    byForm (Form.Two rule) σ k = twoOf rule σ k
+    byForm Form.Read σ k = readOf σ k
+    byForm Form.Three σ k = threeOf σ k
+    byForm Form.Choice σ k = iteOf σ k
+    byForm Form.Step σ k = stepOf σ k
 
 -- the operands of a form that stand before their node
 abbrev pub Before : Form → List ℕ → ℕ → Type 0
 Before Form.Constant g k = Unit
 Before Form.Given g k = Unit
 Before Form.Free g k = Unit
-Before Form.One g k = wordOf g k 2 < k
-Before Form.Two g k = (wordOf g k 2 < k) × (wordOf g k 3 < k)
+Before (Form.One rule) g k = wordOf g k 2 < k
+Before (Form.Two rule) g k = (wordOf g k 2 < k) × (wordOf g k 3 < k)
+Before Form.Read g k = (wordOf g k 2 < k) × (wordOf g k 3 < k)
 Before Form.Three g k = (wordOf g k 2 < k) × (wordOf g k 3 < k) × (wordOf g k 4 < k)
 Before Form.Choice g k = (wordOf g k 2 < k) × (wordOf g k 3 < k) × (wordOf g k 4 < k)
 Before Form.Step g k = (wordOf g k 2 < k) × (wordOf g k 3 < k)

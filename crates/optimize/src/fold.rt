@@ -2,13 +2,13 @@
 use btor::node_type::CodedSort;
 use btor::node_type::NodeType;
 use btor::operators;
-use tables::node::NodeKind;
+use btor::reading::Reading;
 ghost use mathlib.Core.Path.{_≡_};
 ghost use Prim.Native.Nat.{_≤_};
-ghost use Rattle.btor.specs.Operators.{Op, Reading, compute, complement, less};
+ghost use Rattle.btor.specs.Operators.{compute, complement, less};
+ghost use Rattle.btor.specs.Readings.{readingIs};
 ghost use Rattle.btor.specs.Sorts.{width, ones};
 ghost use Rattle.rules.specs.Fold.{shared, isConst, foldConst, foldWords, foldTest, foldEq, foldNot, foldExt, foldAnd, foldOr};
-ghost use Rattle.tables.specs.NodeAnswers.{kindIs};
 ghost use Rattle.optimize.specs.Bounds.{mostNodes};
 ghost use Rattle.optimize.specs.View.{constantIs, foldIs};
 ghost use Rattle.optimize.specs.Folding.{opIs, foldTwo, foldOne, asksBit};
@@ -38,17 +38,33 @@ pub(crate) enum Operator {
     Srl,
 }
 
+// The rule of a node of two operands that folds.
+pub(crate) enum Rule {
+    Word(Operator),
+    Ult,
+    Eq,
+    And,
+    Or,
+}
+
+// The rule of a node of one operand. A Bad and a State with an init stay.
+pub(crate) enum Single {
+    Ext,
+    Not,
+    Stays,
+}
+
 impl Operator {
-    fn apply(self, left: u64, right: u64) -> u64
-        ensures { λ r. ⌜ r ≡ compute Reading.rust (opIs self) left right ⌝ }
+    fn apply(self, how: Reading, left: u64, right: u64) -> u64
+        ensures { λ r. ⌜ r ≡ compute (readingIs how) (opIs self) left right ⌝ }
     {
         match self {
             Operator::Add => operators::wrapping_add(left, right),
             Operator::Sub => operators::wrapping_sub(left, right),
             Operator::Mul => operators::wrapping_mul(left, right),
             Operator::Divu => operators::btor_u64_divu(left, right),
-            Operator::Div => operators::btor_u64_div(left, right),
-            Operator::Rem => operators::btor_u64_rem(left, right),
+            Operator::Div => operators::div(how, left, right),
+            Operator::Rem => operators::rem(how, left, right),
             Operator::Sll => operators::btor_u64_sll(left, right),
             Operator::Srl => operators::btor_u64_srl(left, right),
         }
@@ -122,8 +138,8 @@ pub(crate) fn fold_const(n: usize, sort: u64, value: u64) -> Folded
 }
 
 // Two constant words make a new constant, of the node's own sort.
-fn fold_any_binary(sort: u64, left: Constant, right: Constant, f: Operator) -> Folded
-    ensures { λ r. ⌜ foldIs r ≡ foldWords sort (compute Reading.rust (opIs f)) (constantIs left) (constantIs right) ⌝ }
+fn fold_any_binary(how: Reading, sort: u64, left: Constant, right: Constant, f: Operator) -> Folded
+    ensures { λ r. ⌜ foldIs r ≡ foldWords sort (compute (readingIs how) (opIs f)) (constantIs left) (constantIs right) ⌝ }
 {
     let Constant::Imm(left_imm) = left else {
         return Folded::Stays;
@@ -131,55 +147,7 @@ fn fold_any_binary(sort: u64, left: Constant, right: Constant, f: Operator) -> F
     let Constant::Imm(right_imm) = right else {
         return Folded::Stays;
     };
-    Folded::Make(sort, f.apply(left_imm, right_imm))
-}
-
-fn fold_add(sort: u64, left: Constant, right: Constant) -> Folded
-    ensures { λ r. ⌜ foldIs r ≡ foldWords sort (compute Reading.rust Op.Add) (constantIs left) (constantIs right) ⌝ }
-{
-    fold_any_binary(sort, left, right, Operator::Add)
-}
-
-fn fold_sub(sort: u64, left: Constant, right: Constant) -> Folded
-    ensures { λ r. ⌜ foldIs r ≡ foldWords sort (compute Reading.rust Op.Sub) (constantIs left) (constantIs right) ⌝ }
-{
-    fold_any_binary(sort, left, right, Operator::Sub)
-}
-
-fn fold_mul(sort: u64, left: Constant, right: Constant) -> Folded
-    ensures { λ r. ⌜ foldIs r ≡ foldWords sort (compute Reading.rust Op.Mul) (constantIs left) (constantIs right) ⌝ }
-{
-    fold_any_binary(sort, left, right, Operator::Mul)
-}
-
-fn fold_divu(sort: u64, left: Constant, right: Constant) -> Folded
-    ensures { λ r. ⌜ foldIs r ≡ foldWords sort (compute Reading.rust Op.Divu) (constantIs left) (constantIs right) ⌝ }
-{
-    fold_any_binary(sort, left, right, Operator::Divu)
-}
-
-fn fold_div(sort: u64, left: Constant, right: Constant) -> Folded
-    ensures { λ r. ⌜ foldIs r ≡ foldWords sort (compute Reading.rust Op.Div) (constantIs left) (constantIs right) ⌝ }
-{
-    fold_any_binary(sort, left, right, Operator::Div)
-}
-
-fn fold_rem(sort: u64, left: Constant, right: Constant) -> Folded
-    ensures { λ r. ⌜ foldIs r ≡ foldWords sort (compute Reading.rust Op.Rem) (constantIs left) (constantIs right) ⌝ }
-{
-    fold_any_binary(sort, left, right, Operator::Rem)
-}
-
-fn fold_sll(sort: u64, left: Constant, right: Constant) -> Folded
-    ensures { λ r. ⌜ foldIs r ≡ foldWords sort (compute Reading.rust Op.Sll) (constantIs left) (constantIs right) ⌝ }
-{
-    fold_any_binary(sort, left, right, Operator::Sll)
-}
-
-fn fold_srl(sort: u64, left: Constant, right: Constant) -> Folded
-    ensures { λ r. ⌜ foldIs r ≡ foldWords sort (compute Reading.rust Op.Srl) (constantIs left) (constantIs right) ⌝ }
-{
-    fold_any_binary(sort, left, right, Operator::Srl)
+    Folded::Make(sort, f.apply(how, left_imm, right_imm))
 }
 
 fn fold_ult(n: usize, left: Constant, right: Constant) -> Folded
@@ -300,7 +268,8 @@ fn fold_ext(sort: u64, value: Constant) -> Folded
 
 // What a node of two operands x and y folds to, among n nodes; left and right are their numbers.
 pub(crate) fn fold_two(
-    kind: NodeKind,
+    how: Reading,
+    rule: Rule,
     n: usize,
     sort: u64,
     x: usize,
@@ -309,91 +278,38 @@ pub(crate) fn fold_two(
     right: Constant,
 ) -> Folded
     requires { ⌜ n ≤ mostNodes ⌝ }
-    ensures { λ r. ⌜ foldIs r ≡ foldTwo (kindIs kind) n sort x y (constantIs left) (constantIs right) ⌝ }
+    ensures { λ r. ⌜ foldIs r ≡ foldTwo (readingIs how) rule n sort x y (constantIs left) (constantIs right) ⌝ }
 {
-    match kind {
-        NodeKind::Add => fold_add(sort, left, right),
-        NodeKind::Sub => fold_sub(sort, left, right),
-        NodeKind::Mul => fold_mul(sort, left, right),
-        NodeKind::Divu => fold_divu(sort, left, right),
-        NodeKind::Div => fold_div(sort, left, right),
-        NodeKind::Rem => fold_rem(sort, left, right),
-        NodeKind::Sll => fold_sll(sort, left, right),
-        NodeKind::Srl => fold_srl(sort, left, right),
-        NodeKind::Ult => fold_ult(n, left, right),
-        NodeKind::Eq => fold_eq(n, x, y, left, right),
-        NodeKind::And => fold_and(sort, x, y, left, right),
-        NodeKind::Or => fold_or(sort, x, y, left, right),
-        NodeKind::Const => Folded::Stays,
-        NodeKind::Read => Folded::Stays,
-        NodeKind::Write => Folded::Stays,
-        NodeKind::Ext => Folded::Stays,
-        NodeKind::Ite => Folded::Stays,
-        NodeKind::Not => Folded::Stays,
-        NodeKind::State => Folded::Stays,
-        NodeKind::Next => Folded::Stays,
-        NodeKind::Input => Folded::Stays,
-        NodeKind::Bad => Folded::Stays,
+    match rule {
+        Rule::Word(f) => fold_any_binary(how, sort, left, right, f),
+        Rule::Ult => fold_ult(n, left, right),
+        Rule::Eq => fold_eq(n, x, y, left, right),
+        Rule::And => fold_and(sort, x, y, left, right),
+        Rule::Or => fold_or(sort, x, y, left, right),
     }
 }
 
 // What a node of one operand folds to, among n nodes; value is the operand's number.
-pub(crate) fn fold_one(kind: NodeKind, n: usize, sort: u64, value: Constant) -> Folded
+pub(crate) fn fold_one(rule: Single, n: usize, sort: u64, value: Constant) -> Folded
     requires { ⌜ n ≤ mostNodes ⌝ }
-    ensures { λ r. ⌜ foldIs r ≡ foldOne (kindIs kind) n sort (constantIs value) ⌝ }
+    ensures { λ r. ⌜ foldIs r ≡ foldOne rule n sort (constantIs value) ⌝ }
 {
-    match kind {
-        NodeKind::Ext => fold_ext(sort, value),
-        NodeKind::Not => fold_not(n, sort, value),
-        NodeKind::Const => Folded::Stays,
-        NodeKind::Read => Folded::Stays,
-        NodeKind::Write => Folded::Stays,
-        NodeKind::Add => Folded::Stays,
-        NodeKind::Sub => Folded::Stays,
-        NodeKind::Mul => Folded::Stays,
-        NodeKind::Divu => Folded::Stays,
-        NodeKind::Div => Folded::Stays,
-        NodeKind::Rem => Folded::Stays,
-        NodeKind::Sll => Folded::Stays,
-        NodeKind::Srl => Folded::Stays,
-        NodeKind::Ult => Folded::Stays,
-        NodeKind::Ite => Folded::Stays,
-        NodeKind::Eq => Folded::Stays,
-        NodeKind::And => Folded::Stays,
-        NodeKind::Or => Folded::Stays,
-        NodeKind::State => Folded::Stays,
-        NodeKind::Next => Folded::Stays,
-        NodeKind::Input => Folded::Stays,
-        NodeKind::Bad => Folded::Stays,
+    match rule {
+        Single::Ext => fold_ext(sort, value),
+        Single::Not => fold_not(n, sort, value),
+        Single::Stays => Folded::Stays,
     }
 }
 
 // Whether minimise asks about an unfolded node of two operands as about a bit.
-pub(crate) fn asks_bit(kind: NodeKind, sort: u64) -> bool
-    ensures { λ r. ⌜ r ≡ asksBit (kindIs kind) sort ⌝ }
+pub(crate) fn asks_bit(rule: Rule, sort: u64) -> bool
+    ensures { λ r. ⌜ r ≡ asksBit rule sort ⌝ }
 {
-    match kind {
-        NodeKind::Ult => true,
-        NodeKind::Eq => true,
-        NodeKind::And => sort == NodeType::BIT,
-        NodeKind::Const => false,
-        NodeKind::Read => false,
-        NodeKind::Write => false,
-        NodeKind::Add => false,
-        NodeKind::Sub => false,
-        NodeKind::Mul => false,
-        NodeKind::Divu => false,
-        NodeKind::Div => false,
-        NodeKind::Rem => false,
-        NodeKind::Sll => false,
-        NodeKind::Srl => false,
-        NodeKind::Ext => false,
-        NodeKind::Ite => false,
-        NodeKind::Or => false,
-        NodeKind::Not => false,
-        NodeKind::State => false,
-        NodeKind::Next => false,
-        NodeKind::Input => false,
-        NodeKind::Bad => false,
+    match rule {
+        Rule::Word(_) => false,
+        Rule::Ult => true,
+        Rule::Eq => true,
+        Rule::And => sort == NodeType::BIT,
+        Rule::Or => false,
     }
 }

@@ -1,52 +1,75 @@
 // What a visit does with a node, by its kind, and which branch of an Ite its condition chooses.
+use crate::buffers::kind_at;
+use crate::buffers::word;
 use crate::fold::Constant;
+use crate::fold::Operator;
+use crate::fold::Rule;
+use crate::fold::Single;
 use tables::node::NodeKind;
 ghost use mathlib.Core.Path.{_≡_};
+ghost use Prim.Native.Nat.{_+_, _*_, _<_};
+ghost use lib.ListN.{length};
+ghost use Rattle.rules.specs.Table.{rowWidth};
 ghost use Rattle.rules.specs.Visit.{branch};
 ghost use Rattle.tables.specs.NodeAnswers.{kindIs};
 ghost use Rattle.optimize.specs.View.{constantIs};
-ghost use Rattle.optimize.specs.Process.{choiceIs, formOf};
+ghost use Rattle.optimize.specs.Process.{choiceIs, formOf, formAt};
 
-// What a visit does with a node: it is a constant, an input, a state without init, or has one, two or three operands, the
-// condition and branches of an Ite, or the state and the next value of a Next.
+// What a visit does with a node: it is a constant, an input, a state without init, or has one or two operands and the rule by which it folds,
+// the memory and address of a Read, the three operands of a Write, the condition and branches of an Ite, or the state and the next value of a Next.
 pub(crate) enum Form {
     Constant,
     Given,
     Free,
-    One,
-    Two,
+    One(Single),
+    Two(Rule),
+    Read,
     Three,
     Choice,
     Step,
 }
 
-pub(crate) fn form_of(kind: NodeKind, b: u64) -> Form
+fn form_of(kind: NodeKind, b: u64) -> Form
     ensures { λ r. ⌜ r ≡ formOf (kindIs kind) b ⌝ }
 {
     match kind {
         NodeKind::Const => Form::Constant,
-        NodeKind::Read => Form::Two,
+        NodeKind::Read => Form::Read,
         NodeKind::Write => Form::Three,
-        NodeKind::Add => Form::Two,
-        NodeKind::Sub => Form::Two,
-        NodeKind::Mul => Form::Two,
-        NodeKind::Divu => Form::Two,
-        NodeKind::Div => Form::Two,
-        NodeKind::Rem => Form::Two,
-        NodeKind::Sll => Form::Two,
-        NodeKind::Srl => Form::Two,
-        NodeKind::Ult => Form::Two,
-        NodeKind::Ext => Form::One,
+        NodeKind::Add => Form::Two(Rule::Word(Operator::Add)),
+        NodeKind::Sub => Form::Two(Rule::Word(Operator::Sub)),
+        NodeKind::Mul => Form::Two(Rule::Word(Operator::Mul)),
+        NodeKind::Divu => Form::Two(Rule::Word(Operator::Divu)),
+        NodeKind::Div => Form::Two(Rule::Word(Operator::Div)),
+        NodeKind::Rem => Form::Two(Rule::Word(Operator::Rem)),
+        NodeKind::Sll => Form::Two(Rule::Word(Operator::Sll)),
+        NodeKind::Srl => Form::Two(Rule::Word(Operator::Srl)),
+        NodeKind::Ult => Form::Two(Rule::Ult),
+        NodeKind::Ext => Form::One(Single::Ext),
         NodeKind::Ite => Form::Choice,
-        NodeKind::Eq => Form::Two,
-        NodeKind::And => Form::Two,
-        NodeKind::Or => Form::Two,
-        NodeKind::Not => Form::One,
-        NodeKind::State => { if b == 1 { Form::One } else { Form::Free } }
+        NodeKind::Eq => Form::Two(Rule::Eq),
+        NodeKind::And => Form::Two(Rule::And),
+        NodeKind::Or => Form::Two(Rule::Or),
+        NodeKind::Not => Form::One(Single::Not),
+        NodeKind::State => {
+            if b == 1 {
+                Form::One(Single::Stays)
+            } else {
+                Form::Free
+            }
+        }
         NodeKind::Next => Form::Step,
         NodeKind::Input => Form::Given,
-        NodeKind::Bad => Form::One,
+        NodeKind::Bad => Form::One(Single::Stays),
     }
+}
+
+// The form of a node of the table.
+pub(crate) fn form_at(given: &[u64], node: usize) -> Form
+    requires { ⌜ 1 + rowWidth * node + 3 < length (now given) ⌝ }
+    ensures { λ r. ⌜ r ≡ formAt (now (given .entry)) node ⌝ }
+{
+    form_of(kind_at(given, node), word(given, node, 3))
 }
 
 // Which branch of an Ite its condition chooses.

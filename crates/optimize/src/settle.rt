@@ -13,6 +13,8 @@ use crate::counters::is_refused;
 use crate::counters::tally;
 use crate::fold::Constant;
 use crate::fold::Folded;
+use crate::fold::Rule;
+use crate::fold::Single;
 use crate::fold::asks_bit;
 use crate::fold::fold_const;
 use crate::fold::fold_one;
@@ -25,48 +27,17 @@ use crate::solve::solve_ite_bit;
 use crate::solve::solve_ite_word;
 use btor::node_type::NodeType;
 use btor::reading::Reading;
-use tables::node::NodeKind;
 ghost use Prim.Native.Nat.{_<_};
 ghost use mathlib.Core.Path.{_≡_};
 ghost use lib.ListN.{getD};
-ghost use Rattle.rules.specs.Visit.{settle, finish, forward};
-ghost use Rattle.tables.specs.NodeAnswers.{kindIs};
+ghost use Rattle.rules.specs.Visit.{settle, finish};
 ghost use Rattle.optimize.specs.Bounds.{countOf, CountedAt, HasBoth};
-ghost use Rattle.optimize.specs.View.{foldIs, tableOf, constantIs};
+ghost use Rattle.optimize.specs.View.{foldIs, tableOf};
 ghost use Rattle.optimize.specs.Folding.{Falls};
-ghost use Rattle.optimize.specs.Process.{bitOf, afterOne, afterTwo, afterIte, constOut, isRead};
+ghost use Rattle.optimize.specs.Process.{bitOf, afterOne, afterTwo, afterRead, afterIte, constOut};
 ghost use Rattle.optimize.specs.Laid.{Room};
 ghost use Rattle.optimize.specs.Counters.{walkIn, Going};
 ghost use Rattle.optimize.specs.Clauses.{Settles, SettlesBy, SettlesSolved};
-
-fn is_read(kind: NodeKind) -> bool
-    ensures { λ r. ⌜ r ≡ isRead (kindIs kind) ⌝ }
-{
-    match kind {
-        NodeKind::Const => false,
-        NodeKind::Read => true,
-        NodeKind::Write => false,
-        NodeKind::Add => false,
-        NodeKind::Sub => false,
-        NodeKind::Mul => false,
-        NodeKind::Divu => false,
-        NodeKind::Div => false,
-        NodeKind::Rem => false,
-        NodeKind::Sll => false,
-        NodeKind::Srl => false,
-        NodeKind::Ult => false,
-        NodeKind::Ext => false,
-        NodeKind::Ite => false,
-        NodeKind::Eq => false,
-        NodeKind::And => false,
-        NodeKind::Or => false,
-        NodeKind::Not => false,
-        NodeKind::State => false,
-        NodeKind::Next => false,
-        NodeKind::Input => false,
-        NodeKind::Bad => false,
-    }
-}
 
 // Records what a node folds to; the answer is what stands for it from then on.
 pub(crate) fn settle(
@@ -180,40 +151,40 @@ pub(crate) fn after_one(
     scratch: &mut [u64],
     counters: &mut Counters,
     node: usize,
-    kind: NodeKind,
+    rule: Single,
     x: usize,
 ) -> usize
     requires { ⌜ Room (now given) (now result) (now scratch) (walkIn (now counters)) node ⌝ }
     requires { ⌜ Going (now counters) ⌝ }
-    ensures { λ r. ⌜ Settles given result scratch counters r (λ g ways σ. afterOne g ways (kindIs kind) σ node x) ⌝ }
+    ensures { λ r. ⌜ Settles given result scratch counters r (λ g ways σ. afterOne g ways rule σ node x) ⌝ }
 {
     let n = node_count(given);
     let sort = word(given, node, 1);
     let value = get_constant(given, result, counters[0], x);
-    let fold = fold_one(kind, n, sort, value);
+    let fold = fold_one(rule, n, sort, value);
     settle(given, result, scratch, counters, node, fold)
 }
 
-// Forwards a Read of the node `memory` at a constant address: what the write holds that it finds replaces it.
-fn read(
+// Forwards a Read of the memory x, where its address y is a constant: what the write holds that is found replaces it.
+pub(crate) fn read(
     given: &[u64],
     call: &CallWords,
     result: &mut [u64],
     scratch: &mut [u64],
     counters: &mut Counters,
     node: usize,
-    memory: usize,
-    address: Constant,
+    x: usize,
+    y: usize,
 ) -> usize
     requires { ⌜ Room (now given) (now result) (now scratch) (walkIn (now counters)) node ⌝ }
     requires { ⌜ Going (now counters) ⌝ }
     requires { ⌜ Falls (countOf (now given)) (getD (now counters) 0 0) (now result) ⌝ }
-    ensures { λ r. ⌜ SettlesBy given result scratch counters r call (λ g ways σ. forward (tableOf g) ways node σ memory (constantIs address)) ⌝ }
+    ensures { λ r. ⌜ SettlesBy given result scratch counters r call (λ g ways σ. afterRead g ways σ node x y) ⌝ }
 {
-    let Constant::Imm(x) = address else {
+    let Constant::Imm(address) = get_constant(given, result, counters[0], y) else {
         return settle(given, result, scratch, counters, node, Folded::Stays);
     };
-    let search = find_in_memory(Reading::Rust, given, result, counters[0], memory, x);
+    let search = find_in_memory(Reading::Rust, given, result, counters[0], x, address);
     let found = search.found;
     match found {
         Found::Value(value) => {
@@ -227,7 +198,7 @@ fn read(
     }
 }
 
-// Folds a node whose two operands were visited.
+// Folds a node whose two operands were visited, by its rule.
 pub(crate) fn after_two(
     given: &[u64],
     call: &CallWords,
@@ -235,24 +206,20 @@ pub(crate) fn after_two(
     scratch: &mut [u64],
     counters: &mut Counters,
     node: usize,
-    kind: NodeKind,
+    rule: Rule,
     x: usize,
     y: usize,
 ) -> usize
     requires { ⌜ Room (now given) (now result) (now scratch) (walkIn (now counters)) node ⌝ }
     requires { ⌜ Going (now counters) ⌝ }
-    requires { ⌜ Falls (countOf (now given)) (getD (now counters) 0 0) (now result) ⌝ }
-    ensures { λ r. ⌜ SettlesBy given result scratch counters r call (λ g ways σ. afterTwo g ways (kindIs kind) σ node x y) ⌝ }
+    ensures { λ r. ⌜ SettlesBy given result scratch counters r call (λ g ways σ. afterTwo g ways rule σ node x y) ⌝ }
 {
-    let right = get_constant(given, result, counters[0], y);
-    if is_read(kind) {
-        return read(given, call, result, scratch, counters, node, x, right);
-    }
     let n = node_count(given);
     let sort = word(given, node, 1);
     let left = get_constant(given, result, counters[0], x);
-    let fold = fold_two(kind, n, sort, x, y, left, right);
-    let bit = asks_bit(kind, sort);
+    let right = get_constant(given, result, counters[0], y);
+    let fold = fold_two(Reading::Rust, rule, n, sort, x, y, left, right);
+    let bit = asks_bit(rule, sort);
     finish(given, call, result, scratch, counters, node, bit, fold)
 }
 

@@ -1,12 +1,10 @@
 // Visiting a node and rewriting it: visit, process_fold and process_solve of optimize.rs.
 // The two call one another; a node's operands stand before it, so the node number falls.
 use crate::buffers::get_constant;
-use crate::buffers::kind_at;
 use crate::buffers::node_count;
 use crate::buffers::number;
 use crate::buffers::operand;
 use crate::buffers::put_row;
-use crate::buffers::word;
 use crate::call_words::CallWords;
 use crate::call_words::Dumps;
 use crate::call_words::inputs_in;
@@ -15,28 +13,28 @@ use crate::counters::is_refused;
 use crate::counters::put_walk;
 use crate::counters::visited_in;
 use crate::fold::Folded;
+use crate::fold::Rule;
+use crate::fold::Single;
 use crate::form::Choice;
 use crate::form::Form;
 use crate::form::choice_of;
-use crate::form::form_of;
+use crate::form::form_at;
 use crate::input::take_input;
 use crate::settle::after_ite;
 use crate::settle::after_one;
 use crate::settle::after_two;
+use crate::settle::read;
 use crate::settle::settle;
 use crate::settle::settle_const;
 use crate::walk::Visited;
 use crate::walk::Walk;
-use tables::node::NodeKind;
 ghost use Prim.Native.Nat.{_+_, _<_};
 ghost use mathlib.Core.Path.{_≡_};
-ghost use Rattle.rules.specs.Table.{kindOf};
 ghost use Rattle.rules.specs.Walk.{fresh};
-ghost use Rattle.tables.specs.NodeAnswers.{kindIs};
 ghost use Rattle.optimize.specs.Bounds.{countOf};
 ghost use Rattle.rules.specs.Sections.{wordOf};
 ghost use Rattle.optimize.specs.View.{markOf};
-ghost use Rattle.optimize.specs.Process.{formOf, processOf, oneOf, twoOf, threeOf, leftOf, rightOf, bothOf, iteOf, valueOf, stepOf};
+ghost use Rattle.optimize.specs.Process.{formAt, processOf, oneOf, twoOf, readOf, threeOf, leftOf, rightOf, bothOf, iteOf, valueOf, stepOf};
 ghost use Rattle.optimize.specs.CallWords.{LaidBy};
 ghost use Rattle.optimize.specs.Counters.{walkIn, Going};
 ghost use Rattle.optimize.specs.declared.form.Form.{Form};
@@ -84,9 +82,7 @@ fn process(
     requires { ⌜ Going (now counters) ⌝ }
     ensures { λ r. ⌜ Walks given dumps call result scratch counters r node (λ g ways vis σ. processOf g ways vis σ node) ⌝ }
 {
-    let kind = kind_at(given, node);
-    let form = form_of(kind, word(given, node, 3));
-    match form {
+    match form_at(given, node) {
         Form::Constant => settle_const(given, result, scratch, counters, node),
         Form::Given => settle(given, result, scratch, counters, node, Folded::Stays),
         Form::Free => take_input(
@@ -98,8 +94,9 @@ fn process(
             counters,
             node,
         ),
-        Form::One => process_one(given, result, scratch, dumps, call, counters, node, kind),
-        Form::Two => process_two(given, result, scratch, dumps, call, counters, node, kind),
+        Form::One(rule) => process_one(given, result, scratch, dumps, call, counters, node, rule),
+        Form::Two(rule) => process_two(given, result, scratch, dumps, call, counters, node, rule),
+        Form::Read => process_read(given, result, scratch, dumps, call, counters, node),
         Form::Three => process_three(given, result, scratch, dumps, call, counters, node),
         Form::Choice => process_ite(given, result, scratch, dumps, call, counters, node),
         Form::Step => process_next(given, result, scratch, dumps, call, counters, node),
@@ -115,14 +112,14 @@ fn process_one(
     call: &CallWords,
     counters: &mut Counters,
     node: usize,
-    kind: NodeKind,
+    rule: Single,
 ) -> usize
     requires { ⌜ LaidBy (now given) (now dumps) (now call) (now result) (now scratch) (walkIn (now counters)) ⌝ }
     requires { ⌜ node < countOf (now given) ⌝ }
     requires { ⌜ markOf (countOf (now given)) (now scratch) node ≡ fresh ⌝ }
     requires { ⌜ wordOf (now given) node 2 < node ⌝ }
     requires { ⌜ Going (now counters) ⌝ }
-    ensures { λ r. ⌜ Walks given dumps call result scratch counters r node (λ g ways vis σ. oneOf g ways vis (kindIs kind) σ node) ⌝ }
+    ensures { λ r. ⌜ Walks given dumps call result scratch counters r node (λ g ways vis σ. oneOf g ways vis rule σ node) ⌝ }
 {
     let x = visit(
         given,
@@ -144,10 +141,10 @@ fn process_one(
         operand(given, node, 3),
         operand(given, node, 4),
     );
-    after_one(given, result, scratch, counters, node, kind, x)
+    after_one(given, result, scratch, counters, node, rule, x)
 }
 
-// A node of two operands: Read, the operators on words, Ult, Eq, And, Or.
+// A node of two operands that folds: the operators on words, Ult, Eq, And, Or.
 fn process_two(
     given: &[u64],
     result: &mut [u64],
@@ -156,17 +153,15 @@ fn process_two(
     call: &CallWords,
     counters: &mut Counters,
     node: usize,
-    kind: NodeKind,
+    rule: Rule,
 ) -> usize
     requires { ⌜ LaidBy (now given) (now dumps) (now call) (now result) (now scratch) (walkIn (now counters)) ⌝ }
     requires { ⌜ node < countOf (now given) ⌝ }
     requires { ⌜ markOf (countOf (now given)) (now scratch) node ≡ fresh ⌝ }
     requires { ⌜ wordOf (now given) node 2 < node ⌝ }
     requires { ⌜ wordOf (now given) node 3 < node ⌝ }
-    requires { ⌜ kindIs kind ≡ kindOf (wordOf (now given) node 0) ⌝ }
-    requires { ⌜ Form.Two ≡ formOf (kindIs kind) (wordOf (now given) node 3) ⌝ }
     requires { ⌜ Going (now counters) ⌝ }
-    ensures { λ r. ⌜ Walks given dumps call result scratch counters r node (λ g ways vis σ. twoOf g ways vis (kindIs kind) σ node) ⌝ }
+    ensures { λ r. ⌜ Walks given dumps call result scratch counters r node (λ g ways vis σ. twoOf g ways vis rule σ node) ⌝ }
 {
     let x = visit(
         given,
@@ -193,7 +188,54 @@ fn process_two(
         return y;
     }
     put_row(given, result, node, x, y, operand(given, node, 4));
-    after_two(given, call, result, scratch, counters, node, kind, x, y)
+    after_two(given, call, result, scratch, counters, node, rule, x, y)
+}
+
+// A Read.
+fn process_read(
+    given: &[u64],
+    result: &mut [u64],
+    scratch: &mut [u64],
+    dumps: &Dumps,
+    call: &CallWords,
+    counters: &mut Counters,
+    node: usize,
+) -> usize
+    requires { ⌜ LaidBy (now given) (now dumps) (now call) (now result) (now scratch) (walkIn (now counters)) ⌝ }
+    requires { ⌜ node < countOf (now given) ⌝ }
+    requires { ⌜ markOf (countOf (now given)) (now scratch) node ≡ fresh ⌝ }
+    requires { ⌜ wordOf (now given) node 2 < node ⌝ }
+    requires { ⌜ wordOf (now given) node 3 < node ⌝ }
+    requires { ⌜ Form.Read ≡ formAt (now given) node ⌝ }
+    requires { ⌜ Going (now counters) ⌝ }
+    ensures { λ r. ⌜ Walks given dumps call result scratch counters r node (λ g ways vis σ. readOf g ways vis σ node) ⌝ }
+{
+    let x = visit(
+        given,
+        result,
+        scratch,
+        dumps,
+        call,
+        counters,
+        operand(given, node, 2),
+    );
+    if is_refused(counters) {
+        return x;
+    }
+    let y = visit(
+        given,
+        result,
+        scratch,
+        dumps,
+        call,
+        counters,
+        operand(given, node, 3),
+    );
+    if is_refused(counters) {
+        return y;
+    }
+    put_row(given, result, node, x, y, operand(given, node, 4));
+    read(given, call, result, scratch, counters, node, x, y)
 }
 
 // A Write.

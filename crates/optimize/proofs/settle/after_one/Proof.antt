@@ -2,7 +2,6 @@
 -- Assumes nothing.
 use borrow.Author.Needs.{needs}
 use mathlib.Core.Path.{_∙_}
-use Rattle.tables.specs.NodeAnswers.{kindIs}
 use Rattle.optimize.proofs.Finishes.{one-is}
 use native.Mathlib.Omega.{arith}
 use Rattle.optimize.specs.Counters.{walkIn}
@@ -43,7 +42,7 @@ returns c =
     let at-word = at-get-constant .before .before .before in
     let at-node-count = at-word .before in
     let start = at-node-count .before .before .before .before in
-    λ h inputs replies ways. at-settle .settle .ensures h inputs replies ways ∙ one-is h (start .args .given .now) inputs replies (start .args .result .now) (start .args .scratch .now) (walkIn (start .args .counters .now)) ways (start .args .node) (kindIs (start .args .kind)) (start .args .x) _ (at-fold-one .fold-one .ensures ∙ rw (at-word .word .ensures, at-node-count .node-count .ensures, at-get-constant .get-constant .ensures))
+    λ h inputs replies ways. at-settle .settle .ensures h inputs replies ways ∙ one-is h (start .args .given .now) inputs replies (start .args .result .now) (start .args .scratch .now) (walkIn (start .args .counters .now)) ways (start .args .node) (start .args .rule) (start .args .x) _ (at-fold-one .fold-one .ensures ∙ rw (at-word .word .ensures, at-node-count .node-count .ensures, at-get-constant .get-constant .ensures))
 
 pub after-one-spec : {M : Type 1} → statement M
 after-one-spec = tie.close (tie.spec node-count-requires word-requires element-copy-out-get-constant get-constant-requires fold-one-requires settle-requires same-length same-length-2 returns)

@@ -1,28 +1,26 @@
 -- `process_two`: two visits, the row, what comes after two operands.
 -- Assumes nothing.
 use mathlib.Core.Path.{sym, _∙_}
-use mathlib.Core.List.{[]}
 use Prim.Native.Nat.{ℕ}
 use native.Mathlib.Omega.{arith}
 use borrow.Author.Needs.{needs}
-use Rattle.tables.specs.NodeAnswers.{kindIs}
-use Rattle.optimize.specs.Process.{visitOf}
+use Rattle.optimize.specs.Process.{afterTwo, visitOf}
 use Rattle.optimize.specs.View.{view}
 use Rattle.optimize.proofs.Walks.{came-done, two-stop, two-stop-2, two-go}
-use Rattle.optimize.proofs.Keeps.{ready, ready-on, ready-room, ready-falls, room-row, falls-row}
+use Rattle.optimize.proofs.Keeps.{ready, ready-on, ready-room, room-row}
 use Rattle.optimize.proofs.buffers.operand.Reads as operand-reads
 use Rattle.optimize.proofs.visit.visit.Reads as visit
 use Rattle.optimize.proofs.buffers.put_row.Reads as put-row-reads
 use Rattle.optimize.proofs.settle.after_two.Reads as after-two-reads
 use Rattle.optimize.proofs.visit.process_two.Reads as process-two
-use Rattle.optimize.proofs.visit.+process+process_both+process_ite+process_left+process_next+process_one+process_right+process_three+process_two+process_value+visit.Lts-process_two as lts
+use Rattle.optimize.proofs.visit.+process+process_both+process_ite+process_left+process_next+process_one+process_read+process_right+process_three+process_two+process_value+visit.Lts-process_two as lts
 use Rattle.optimize.proofs.counters.is_refused.Reads as is-refused-reads
 use Rattle.optimize.specs.Counters.{walkIn}
 use Rattle.optimize.proofs.CounterLaws.{went, stopped}
 use Rattle.optimize.specs.CallWords.{inputsIn, repliesIn, waysBy}
 use Rattle.optimize.specs.Counters.{walkIn}
 use Rattle.optimize.proofs.Keeps.{ready-kept}
-use Rattle.optimize.proofs.visit.+process+process_both+process_ite+process_left+process_next+process_one+process_right+process_three+process_two+process_value+visit.Proof.Measures.{process-two-at, visit-below}
+use Rattle.optimize.proofs.visit.+process+process_both+process_ite+process_left+process_next+process_one+process_read+process_right+process_three+process_two+process_value+visit.Proof.Measures.{process-two-at, visit-below}
 
 module _ (t : ℕ) where
   abbrev claims : lts.Claims
@@ -36,7 +34,7 @@ module _ (t : ℕ) where
   visit-requires : lts.Need-visit-requires claims (process-two-at t) process-two.Post
   visit-requires c κs =
       let start = c .before .before .before .before .before .before .before in
-      (omega (arith, start .pre .0, c .operand .ensures, (start .pre .1 .1 .1 .1 .0)), ((start .pre .1 .0), (omega (arith, c .operand .ensures, (start .pre .1 .1 .1 .1 .0), (start .pre .1 .1 .0)), (start .pre .1 .1 .1 .1 .1 .1 .1 .1))))
+      (omega (arith, start .pre .0, c .operand .ensures, (start .pre .1 .1 .1 .1 .0)), ((start .pre .1 .0), (omega (arith, c .operand .ensures, (start .pre .1 .1 .1 .1 .0), (start .pre .1 .1 .0)), (start .pre .1 .1 .1 .1 .1 .1))))
 
   is-refused-requires : lts.Need-is-refused-requires claims (process-two-at t) process-two.Post
   is-refused-requires c κs = search needs
@@ -56,7 +54,7 @@ module _ (t : ℕ) where
       let at-visit = c .before .before .before .before .before .before .before in
       let at-operand = at-visit .before in
       let start = at-operand .before .before .before .before .before .before .before in
-      λ h f l. two-stop (start .args .given .now) (inputsIn (start .args .given .now) (start .args .call .now)) (repliesIn (start .args .given .now) (start .args .call .now)) (waysBy (start .args .given .now) (start .args .dumps .now) (start .args .call .now)) (visitOf (start .args .given .now) (waysBy (start .args .given .now) (start .args .dumps .now) (start .args .call .now)) f) (start .args .node) (view h (start .args .given .now) (inputsIn (start .args .given .now) (start .args .call .now)) (repliesIn (start .args .given .now) (start .args .call .now)) (start .args .result .now) (start .args .scratch .now) (walkIn (start .args .counters .now))) _ _ _ _ _ _ _ (at-visit .visit .ensures h f (omega (arith, at-operand .operand .ensures, (start .pre .1 .1 .1 .1 .0), l))) (stopped _ _ _ (c .before .is-refused .ensures) (c .if1 .taken)) (kindIs (start .args .kind)) (at-operand .operand .ensures)
+      λ h f l. two-stop (start .args .given .now) (inputsIn (start .args .given .now) (start .args .call .now)) (repliesIn (start .args .given .now) (start .args .call .now)) (waysBy (start .args .given .now) (start .args .dumps .now) (start .args .call .now)) (visitOf (start .args .given .now) (waysBy (start .args .given .now) (start .args .dumps .now) (start .args .call .now)) f) (start .args .node) (view h (start .args .given .now) (inputsIn (start .args .given .now) (start .args .call .now)) (repliesIn (start .args .given .now) (start .args .call .now)) (start .args .result .now) (start .args .scratch .now) (walkIn (start .args .counters .now))) _ _ _ _ _ _ _ (at-visit .visit .ensures h f (omega (arith, at-operand .operand .ensures, (start .pre .1 .1 .1 .1 .0), l))) (stopped _ _ _ (c .before .is-refused .ensures) (c .if1 .taken)) (afterTwo (start .args .given .now) (waysBy (start .args .given .now) (start .args .dumps .now) (start .args .call .now)) (start .args .rule)) (at-operand .operand .ensures)
 
   operand-requires-2 : lts.Need-operand-requires-2 claims (process-two-at t) process-two.Post
   operand-requires-2 c κs =
@@ -96,7 +94,7 @@ module _ (t : ℕ) where
       let at-visit = at-is-refused .before .before .before .before .before .before in
       let at-operand = at-visit .before in
       let start = at-operand .before .before .before .before .before .before .before in
-      λ h f l. let m = at-visit .visit .ensures h f (omega (arith, at-operand .operand .ensures, (start .pre .1 .1 .1 .1 .0), l)) in two-stop-2 (start .args .given .now) (inputsIn (start .args .given .now) (start .args .call .now)) (repliesIn (start .args .given .now) (start .args .call .now)) (waysBy (start .args .given .now) (start .args .dumps .now) (start .args .call .now)) (visitOf (start .args .given .now) (waysBy (start .args .given .now) (start .args .dumps .now) (start .args .call .now)) f) (start .args .node) (view h (start .args .given .now) (inputsIn (start .args .given .now) (start .args .call .now)) (repliesIn (start .args .given .now) (start .args .call .now)) (start .args .result .now) (start .args .scratch .now) (walkIn (start .args .counters .now))) _ _ _ _ _ _ _ _ (came-done _ _ _ _ _ _ _ m _ _ (went _ _ _ (at-is-refused .is-refused .ensures) (at-if1 .if1 .left))) _ _ (at-visit2 .visit2 .ensures (m .0) f (omega (arith, at-operand2 .operand2 .ensures, (start .pre .1 .1 .1 .1 .1 .0), l))) (stopped _ _ _ (c .before .is-refused2 .ensures) (c .if2 .taken)) (kindIs (start .args .kind)) (at-operand .operand .ensures) (at-operand2 .operand2 .ensures)
+      λ h f l. let m = at-visit .visit .ensures h f (omega (arith, at-operand .operand .ensures, (start .pre .1 .1 .1 .1 .0), l)) in two-stop-2 (start .args .given .now) (inputsIn (start .args .given .now) (start .args .call .now)) (repliesIn (start .args .given .now) (start .args .call .now)) (waysBy (start .args .given .now) (start .args .dumps .now) (start .args .call .now)) (visitOf (start .args .given .now) (waysBy (start .args .given .now) (start .args .dumps .now) (start .args .call .now)) f) (start .args .node) (view h (start .args .given .now) (inputsIn (start .args .given .now) (start .args .call .now)) (repliesIn (start .args .given .now) (start .args .call .now)) (start .args .result .now) (start .args .scratch .now) (walkIn (start .args .counters .now))) _ _ _ _ _ _ _ _ (came-done _ _ _ _ _ _ _ m _ _ (went _ _ _ (at-is-refused .is-refused .ensures) (at-if1 .if1 .left))) _ _ (at-visit2 .visit2 .ensures (m .0) f (omega (arith, at-operand2 .operand2 .ensures, (start .pre .1 .1 .1 .1 .1 .0), l))) (stopped _ _ _ (c .before .is-refused2 .ensures) (c .if2 .taken)) (afterTwo (start .args .given .now) (waysBy (start .args .given .now) (start .args .dumps .now) (start .args .call .now)) (start .args .rule)) (at-operand .operand .ensures) (at-operand2 .operand2 .ensures)
 
   operand-requires-3 : lts.Need-operand-requires-3 claims (process-two-at t) process-two.Post
   operand-requires-3 c κs =
@@ -128,7 +126,7 @@ module _ (t : ℕ) where
       let at-visit = at-is-refused .before .before .before .before .before .before in
       let at-operand = at-visit .before in
       let start = at-operand .before .before .before .before .before .before .before in
-      ((room-row _ _ _ _ _ _ (at-put-row .put-row .kept .1 .0) (ready-room _ _ _ _ _ _ _ _ _ _ (ready-on _ _ _ _ _ _ _ _ _ _ _ _ _ _ _ _ (ready-on _ _ _ _ _ _ _ _ _ _ _ _ _ _ _ _ (ready _ _ _ _ _ _ _ _ _ _ (start .pre .1 .0) (start .pre .1 .1 .0) (start .pre .1 .1 .1 .0)) (omega (arith, at-operand .operand .ensures, (start .pre .1 .1 .1 .1 .0))) (at-visit .visit .ensures) (went _ _ _ (at-is-refused .is-refused .ensures) (at-if1 .if1 .left)) (at-visit .visit .kept .1 .0) (at-visit .visit .kept .1 .1 .0)) (omega (arith, at-operand2 .operand2 .ensures, (start .pre .1 .1 .1 .1 .1 .0))) (at-visit2 .visit2 .ensures) (went _ _ _ (at-is-refused2 .is-refused2 .ensures) (at-if2 .if2 .left)) (at-visit2 .visit2 .kept .1 .0) (at-visit2 .visit2 .kept .1 .1 .0)))), ((sym (at-is-refused2 .is-refused2 .ensures) ∙ at-if2 .if2 .left), falls-row [] (start .args .given .now) (inputsIn (start .args .given .now) (start .args .call .now)) (repliesIn (start .args .given .now) (start .args .call .now)) _ _ (start .args .scratch .now) (walkIn (at-visit2 .visit2 .last .1 .1 .1 .1 .1 .0)) (start .args .node) _ _ _ (kindIs (start .args .kind)) (start .pre .1 .1 .1 .1 .1 .1 .0) (start .pre .1 .1 .1 .1 .1 .1 .1 .0) (at-put-row .put-row .ensures [] (inputsIn (start .args .given .now) (start .args .call .now)) (repliesIn (start .args .given .now) (start .args .call .now)) (start .args .scratch .now) _) (ready-falls _ _ _ _ _ _ _ _ _ _ (ready-on _ _ _ _ _ _ _ _ _ _ _ _ _ _ _ _ (ready-on _ _ _ _ _ _ _ _ _ _ _ _ _ _ _ _ (ready _ _ _ _ _ _ _ _ _ _ (start .pre .1 .0) (start .pre .1 .1 .0) (start .pre .1 .1 .1 .0)) (omega (arith, at-operand .operand .ensures, (start .pre .1 .1 .1 .1 .0))) (at-visit .visit .ensures) (went _ _ _ (at-is-refused .is-refused .ensures) (at-if1 .if1 .left)) (at-visit .visit .kept .1 .0) (at-visit .visit .kept .1 .1 .0)) (omega (arith, at-operand2 .operand2 .ensures, (start .pre .1 .1 .1 .1 .1 .0))) (at-visit2 .visit2 .ensures) (went _ _ _ (at-is-refused2 .is-refused2 .ensures) (at-if2 .if2 .left)) (at-visit2 .visit2 .kept .1 .0) (at-visit2 .visit2 .kept .1 .1 .0)))))
+      ((room-row _ _ _ _ _ _ (at-put-row .put-row .kept .1 .0) (ready-room _ _ _ _ _ _ _ _ _ _ (ready-on _ _ _ _ _ _ _ _ _ _ _ _ _ _ _ _ (ready-on _ _ _ _ _ _ _ _ _ _ _ _ _ _ _ _ (ready _ _ _ _ _ _ _ _ _ _ (start .pre .1 .0) (start .pre .1 .1 .0) (start .pre .1 .1 .1 .0)) (omega (arith, at-operand .operand .ensures, (start .pre .1 .1 .1 .1 .0))) (at-visit .visit .ensures) (went _ _ _ (at-is-refused .is-refused .ensures) (at-if1 .if1 .left)) (at-visit .visit .kept .1 .0) (at-visit .visit .kept .1 .1 .0)) (omega (arith, at-operand2 .operand2 .ensures, (start .pre .1 .1 .1 .1 .1 .0))) (at-visit2 .visit2 .ensures) (went _ _ _ (at-is-refused2 .is-refused2 .ensures) (at-if2 .if2 .left)) (at-visit2 .visit2 .kept .1 .0) (at-visit2 .visit2 .kept .1 .1 .0)))), (sym (at-is-refused2 .is-refused2 .ensures) ∙ at-if2 .if2 .left))
 
   same-length-5 : lts.Need-same-length-5 claims (process-two-at t) process-two.Post
   same-length-5 c =
@@ -159,7 +157,7 @@ module _ (t : ℕ) where
       let at-visit = at-is-refused .before .before .before .before .before .before in
       let at-operand = at-visit .before in
       let start = at-operand .before .before .before .before .before .before .before in
-      λ h f l. let m = at-visit .visit .ensures h f (omega (arith, at-operand .operand .ensures, (start .pre .1 .1 .1 .1 .0), l)) in let p = at-visit2 .visit2 .ensures (m .0) f (omega (arith, at-operand2 .operand2 .ensures, (start .pre .1 .1 .1 .1 .1 .0), l)) in (p .0, two-go (start .args .given .now) (waysBy (start .args .given .now) (start .args .dumps .now) (start .args .call .now)) (visitOf (start .args .given .now) (waysBy (start .args .given .now) (start .args .dumps .now) (start .args .call .now)) f) (start .args .node) (view h (start .args .given .now) (inputsIn (start .args .given .now) (start .args .call .now)) (repliesIn (start .args .given .now) (start .args .call .now)) (start .args .result .now) (start .args .scratch .now) (walkIn (start .args .counters .now))) _ _ _ (came-done _ _ _ _ _ _ _ m _ _ (went _ _ _ (at-is-refused .is-refused .ensures) (at-if1 .if1 .left))) _ _ _ (came-done _ _ _ _ _ _ _ p _ _ (went _ _ _ (at-is-refused2 .is-refused2 .ensures) (at-if2 .if2 .left))) (kindIs (start .args .kind)) _ _ _ (at-operand .operand .ensures) (at-operand2 .operand2 .ensures) (at-operand3 .operand3 .ensures) (at-put-row .put-row .ensures (p .0) _ _ _ _) (at-after-two .after-two .ensures (p .0) _ (start .args .dumps .now)))
+      λ h f l. let m = at-visit .visit .ensures h f (omega (arith, at-operand .operand .ensures, (start .pre .1 .1 .1 .1 .0), l)) in let p = at-visit2 .visit2 .ensures (m .0) f (omega (arith, at-operand2 .operand2 .ensures, (start .pre .1 .1 .1 .1 .1 .0), l)) in (p .0, two-go (start .args .given .now) (waysBy (start .args .given .now) (start .args .dumps .now) (start .args .call .now)) (visitOf (start .args .given .now) (waysBy (start .args .given .now) (start .args .dumps .now) (start .args .call .now)) f) (start .args .node) (view h (start .args .given .now) (inputsIn (start .args .given .now) (start .args .call .now)) (repliesIn (start .args .given .now) (start .args .call .now)) (start .args .result .now) (start .args .scratch .now) (walkIn (start .args .counters .now))) _ _ _ (came-done _ _ _ _ _ _ _ m _ _ (went _ _ _ (at-is-refused .is-refused .ensures) (at-if1 .if1 .left))) _ _ _ (came-done _ _ _ _ _ _ _ p _ _ (went _ _ _ (at-is-refused2 .is-refused2 .ensures) (at-if2 .if2 .left))) (afterTwo (start .args .given .now) (waysBy (start .args .given .now) (start .args .dumps .now) (start .args .call .now)) (start .args .rule)) _ _ _ (at-operand .operand .ensures) (at-operand2 .operand2 .ensures) (at-operand3 .operand3 .ensures) (at-put-row .put-row .ensures (p .0) _ _ _ _) (at-after-two .after-two .ensures (p .0) _ (start .args .dumps .now)))
 
   pub proved : {M : Type 1} → lts.Closed claims (process-two-at t) process-two.Post M
   proved = lts.spec claims (process-two-at t) process-two.Post operand-requires visit-requires is-refused-requires same-length same-length-2 returns operand-requires-2 visit-requires-2 is-refused-requires-2 same-length-3 same-length-4 returns-2 operand-requires-3 put-row-requires after-two-requires same-length-5 same-length-6 returns-3

@@ -15,6 +15,8 @@ use Rattle.optimize.proofs.visit.process_next.Reads as process-next
 use Rattle.optimize.proofs.visit.process_next.Kinds as process-next-kinds
 use Rattle.optimize.proofs.visit.process_one.Reads as process-one
 use Rattle.optimize.proofs.visit.process_one.Kinds as process-one-kinds
+use Rattle.optimize.proofs.visit.process_read.Reads as process-read
+use Rattle.optimize.proofs.visit.process_read.Kinds as process-read-kinds
 use Rattle.optimize.proofs.visit.process_right.Reads as process-right
 use Rattle.optimize.proofs.visit.process_right.Kinds as process-right-kinds
 use Rattle.optimize.proofs.visit.process_three.Reads as process-three
@@ -79,6 +81,15 @@ process-one-at t = and 6 process-one-kinds.ps (is 6 process-one-kinds.ps μ-proc
 
 abbrev pub process-one-below : ℕ → In 6 process-one-kinds.ps
 process-one-below t = and 6 process-one-kinds.ps (falls 6 process-one-kinds.ps _<_ μ-process-one t) process-one.Pre
+
+abbrev pub μ-process-read : Measures 6 process-read-kinds.ps ℕ
+μ-process-read κs a = 8 * a .1 .1 .1 .1 .1 .1 .0 + 3
+
+abbrev pub process-read-at : ℕ → In 6 process-read-kinds.ps
+process-read-at t = and 6 process-read-kinds.ps (is 6 process-read-kinds.ps μ-process-read t) process-read.Pre
+
+abbrev pub process-read-below : ℕ → In 6 process-read-kinds.ps
+process-read-below t = and 6 process-read-kinds.ps (falls 6 process-read-kinds.ps _<_ μ-process-read t) process-read.Pre
 
 abbrev pub μ-process-right : Measures 6 process-right-kinds.ps ℕ
 μ-process-right κs a = 8 * a .1 .1 .1 .1 .1 .1 .0 + 3

@@ -4,7 +4,6 @@ use mathlib.Core.Path.{sym, _∙_}
 use Prim.Native.Nat.{ℕ}
 use native.Mathlib.Omega.{arith}
 use borrow.Author.Needs.{needs}
-use Rattle.tables.specs.NodeAnswers.{kindIs}
 use Rattle.optimize.specs.Process.{visitOf}
 use Rattle.optimize.specs.View.{view}
 use Rattle.optimize.proofs.Walks.{came-done, one-stop, one-go}
@@ -14,13 +13,13 @@ use Rattle.optimize.proofs.visit.visit.Reads as visit
 use Rattle.optimize.proofs.buffers.put_row.Reads as put-row-reads
 use Rattle.optimize.proofs.settle.after_one.Reads as after-one-reads
 use Rattle.optimize.proofs.visit.process_one.Reads as process-one
-use Rattle.optimize.proofs.visit.+process+process_both+process_ite+process_left+process_next+process_one+process_right+process_three+process_two+process_value+visit.Lts-process_one as lts
+use Rattle.optimize.proofs.visit.+process+process_both+process_ite+process_left+process_next+process_one+process_read+process_right+process_three+process_two+process_value+visit.Lts-process_one as lts
 use Rattle.optimize.proofs.counters.is_refused.Reads as is-refused-reads
 use Rattle.optimize.specs.Counters.{walkIn}
 use Rattle.optimize.proofs.CounterLaws.{went, stopped}
 use Rattle.optimize.specs.CallWords.{inputsIn, repliesIn, waysBy}
 use Rattle.optimize.proofs.Keeps.{ready-kept}
-use Rattle.optimize.proofs.visit.+process+process_both+process_ite+process_left+process_next+process_one+process_right+process_three+process_two+process_value+visit.Proof.Measures.{process-one-at, visit-below}
+use Rattle.optimize.proofs.visit.+process+process_both+process_ite+process_left+process_next+process_one+process_read+process_right+process_three+process_two+process_value+visit.Proof.Measures.{process-one-at, visit-below}
 
 module _ (t : ℕ) where
   abbrev claims : lts.Claims
@@ -54,7 +53,7 @@ module _ (t : ℕ) where
       let at-visit = c .before .before .before .before .before .before .before in
       let at-operand = at-visit .before in
       let start = at-operand .before .before .before .before .before .before .before in
-      λ h f l. one-stop (start .args .given .now) (inputsIn (start .args .given .now) (start .args .call .now)) (repliesIn (start .args .given .now) (start .args .call .now)) (waysBy (start .args .given .now) (start .args .dumps .now) (start .args .call .now)) (visitOf (start .args .given .now) (waysBy (start .args .given .now) (start .args .dumps .now) (start .args .call .now)) f) (start .args .node) (view h (start .args .given .now) (inputsIn (start .args .given .now) (start .args .call .now)) (repliesIn (start .args .given .now) (start .args .call .now)) (start .args .result .now) (start .args .scratch .now) (walkIn (start .args .counters .now))) _ _ _ _ _ _ _ (at-visit .visit .ensures h f (omega (arith, at-operand .operand .ensures, (start .pre .1 .1 .1 .1 .0), l))) (stopped _ _ _ (c .before .is-refused .ensures) (c .if1 .taken)) (kindIs (start .args .kind)) (at-operand .operand .ensures)
+      λ h f l. one-stop (start .args .given .now) (inputsIn (start .args .given .now) (start .args .call .now)) (repliesIn (start .args .given .now) (start .args .call .now)) (waysBy (start .args .given .now) (start .args .dumps .now) (start .args .call .now)) (visitOf (start .args .given .now) (waysBy (start .args .given .now) (start .args .dumps .now) (start .args .call .now)) f) (start .args .node) (view h (start .args .given .now) (inputsIn (start .args .given .now) (start .args .call .now)) (repliesIn (start .args .given .now) (start .args .call .now)) (start .args .result .now) (start .args .scratch .now) (walkIn (start .args .counters .now))) _ _ _ _ _ _ _ (at-visit .visit .ensures h f (omega (arith, at-operand .operand .ensures, (start .pre .1 .1 .1 .1 .0), l))) (stopped _ _ _ (c .before .is-refused .ensures) (c .if1 .taken)) (start .args .rule) (at-operand .operand .ensures)
 
   operand-requires-2 : lts.Need-operand-requires-2 claims (process-one-at t) process-one.Post
   operand-requires-2 c κs =
@@ -109,7 +108,7 @@ module _ (t : ℕ) where
       let at-visit = at-is-refused .before .before .before .before .before .before in
       let at-operand = at-visit .before in
       let start = at-operand .before .before .before .before .before .before .before in
-      λ h f l. let m = at-visit .visit .ensures h f (omega (arith, at-operand .operand .ensures, (start .pre .1 .1 .1 .1 .0), l)) in (m .0, one-go (start .args .given .now) (waysBy (start .args .given .now) (start .args .dumps .now) (start .args .call .now)) (visitOf (start .args .given .now) (waysBy (start .args .given .now) (start .args .dumps .now) (start .args .call .now)) f) (start .args .node) (view h (start .args .given .now) (inputsIn (start .args .given .now) (start .args .call .now)) (repliesIn (start .args .given .now) (start .args .call .now)) (start .args .result .now) (start .args .scratch .now) (walkIn (start .args .counters .now))) _ _ _ (came-done _ _ _ _ _ _ _ m _ _ (went _ _ _ (at-is-refused .is-refused .ensures) (at-if1 .if1 .left))) (kindIs (start .args .kind)) _ _ _ _ (at-operand .operand .ensures) (at-operand2 .operand2 .ensures) (at-operand3 .operand3 .ensures) (at-put-row .put-row .ensures (m .0) _ _ _ _) (at-after-one .after-one .ensures (m .0) _ _ _))
+      λ h f l. let m = at-visit .visit .ensures h f (omega (arith, at-operand .operand .ensures, (start .pre .1 .1 .1 .1 .0), l)) in (m .0, one-go (start .args .given .now) (waysBy (start .args .given .now) (start .args .dumps .now) (start .args .call .now)) (visitOf (start .args .given .now) (waysBy (start .args .given .now) (start .args .dumps .now) (start .args .call .now)) f) (start .args .node) (view h (start .args .given .now) (inputsIn (start .args .given .now) (start .args .call .now)) (repliesIn (start .args .given .now) (start .args .call .now)) (start .args .result .now) (start .args .scratch .now) (walkIn (start .args .counters .now))) _ _ _ (came-done _ _ _ _ _ _ _ m _ _ (went _ _ _ (at-is-refused .is-refused .ensures) (at-if1 .if1 .left))) (start .args .rule) _ _ _ _ (at-operand .operand .ensures) (at-operand2 .operand2 .ensures) (at-operand3 .operand3 .ensures) (at-put-row .put-row .ensures (m .0) _ _ _ _) (at-after-one .after-one .ensures (m .0) _ _ _))
 
   pub proved : {M : Type 1} → lts.Closed claims (process-one-at t) process-one.Post M
   proved = lts.spec claims (process-one-at t) process-one.Post operand-requires visit-requires is-refused-requires same-length same-length-2 returns operand-requires-2 operand-requires-3 put-row-requires after-one-requires same-length-3 same-length-4 returns-2

@@ -1,0 +1,164 @@
+-- `process_read`: two visits, the row, the Read forwarded.
+-- Assumes nothing.
+use mathlib.Core.Path.{sym, _∙_}
+use mathlib.Core.List.{[]}
+use Prim.Native.Nat.{ℕ}
+use native.Mathlib.Omega.{arith}
+use borrow.Author.Needs.{needs}
+use Rattle.optimize.specs.Process.{afterRead, visitOf}
+use Rattle.optimize.specs.View.{view}
+use Rattle.optimize.proofs.Walks.{came-done, two-stop, two-stop-2, two-go}
+use Rattle.optimize.proofs.Keeps.{ready, ready-on, ready-room, ready-falls, room-row, falls-row}
+use Rattle.optimize.proofs.buffers.operand.Reads as operand-reads
+use Rattle.optimize.proofs.visit.visit.Reads as visit
+use Rattle.optimize.proofs.buffers.put_row.Reads as put-row-reads
+use Rattle.optimize.proofs.settle.read.Reads as read-reads
+use Rattle.optimize.proofs.visit.process_read.Reads as process-read
+use Rattle.optimize.proofs.visit.+process+process_both+process_ite+process_left+process_next+process_one+process_read+process_right+process_three+process_two+process_value+visit.Lts-process_read as lts
+use Rattle.optimize.proofs.counters.is_refused.Reads as is-refused-reads
+use Rattle.optimize.specs.Counters.{walkIn}
+use Rattle.optimize.proofs.CounterLaws.{went, stopped}
+use Rattle.optimize.specs.CallWords.{inputsIn, repliesIn, waysBy}
+use Rattle.optimize.specs.Counters.{walkIn}
+use Rattle.optimize.proofs.Keeps.{ready-kept}
+use Rattle.optimize.proofs.visit.+process+process_both+process_ite+process_left+process_next+process_one+process_read+process_right+process_three+process_two+process_value+visit.Proof.Measures.{process-read-at, visit-below}
+
+module _ (t : ℕ) where
+  abbrev claims : lts.Claims
+  claims = (operand-reads.Asked, operand-reads.Learnt, visit-below t, visit.Post, is-refused-reads.Asked, is-refused-reads.Learnt, put-row-reads.Asked, put-row-reads.Learnt, read-reads.Asked, read-reads.Learnt)
+
+  operand-requires : lts.Need-operand-requires claims (process-read-at t) process-read.Post
+  operand-requires c κs =
+      let start = c .before .before .before .before .before .before in
+      omega (arith, (start .pre .1 .0) .whole, (start .pre .1 .1 .0))
+
+  visit-requires : lts.Need-visit-requires claims (process-read-at t) process-read.Post
+  visit-requires c κs =
+      let start = c .before .before .before .before .before .before .before in
+      (omega (arith, start .pre .0, c .operand .ensures, (start .pre .1 .1 .1 .1 .0)), ((start .pre .1 .0), (omega (arith, c .operand .ensures, (start .pre .1 .1 .1 .1 .0), (start .pre .1 .1 .0)), (start .pre .1 .1 .1 .1 .1 .1 .1))))
+
+  is-refused-requires : lts.Need-is-refused-requires claims (process-read-at t) process-read.Post
+  is-refused-requires c κs = search needs
+
+  same-length : lts.Need-same-length claims (process-read-at t) process-read.Post
+  same-length c =
+      let at-visit = c .before .before .before .before .before .before .before in
+      at-visit .visit .kept .1 .0
+
+  same-length-2 : lts.Need-same-length-2 claims (process-read-at t) process-read.Post
+  same-length-2 c =
+      let at-visit = c .before .before .before .before .before .before .before in
+      at-visit .visit .kept .1 .1 .0
+
+  returns : lts.Need-returns claims (process-read-at t) process-read.Post
+  returns c =
+      let at-visit = c .before .before .before .before .before .before .before in
+      let at-operand = at-visit .before in
+      let start = at-operand .before .before .before .before .before .before .before in
+      λ h f l. two-stop (start .args .given .now) (inputsIn (start .args .given .now) (start .args .call .now)) (repliesIn (start .args .given .now) (start .args .call .now)) (waysBy (start .args .given .now) (start .args .dumps .now) (start .args .call .now)) (visitOf (start .args .given .now) (waysBy (start .args .given .now) (start .args .dumps .now) (start .args .call .now)) f) (start .args .node) (view h (start .args .given .now) (inputsIn (start .args .given .now) (start .args .call .now)) (repliesIn (start .args .given .now) (start .args .call .now)) (start .args .result .now) (start .args .scratch .now) (walkIn (start .args .counters .now))) _ _ _ _ _ _ _ (at-visit .visit .ensures h f (omega (arith, at-operand .operand .ensures, (start .pre .1 .1 .1 .1 .0), l))) (stopped _ _ _ (c .before .is-refused .ensures) (c .if1 .taken)) (afterRead (start .args .given .now) (waysBy (start .args .given .now) (start .args .dumps .now) (start .args .call .now))) (at-operand .operand .ensures)
+
+  operand-requires-2 : lts.Need-operand-requires-2 claims (process-read-at t) process-read.Post
+  operand-requires-2 c κs =
+      let start = c .before .before .before .before .before .before .before .before .before .before .before .before .before .before .before .before .before .before in
+      omega (arith, (start .pre .1 .0) .whole, (start .pre .1 .1 .0))
+
+  visit-requires-2 : lts.Need-visit-requires-2 claims (process-read-at t) process-read.Post
+  visit-requires-2 c κs =
+      let at-if1 = c .before .before .before .before in
+      let at-is-refused = at-if1 .before in
+      let at-visit = at-is-refused .before .before .before .before .before .before in
+      let at-operand = at-visit .before in
+      let start = at-operand .before .before .before .before .before .before .before in
+      (omega (arith, start .pre .0, c .operand2 .ensures, (start .pre .1 .1 .1 .1 .1 .0)), ((ready-on _ _ _ _ _ _ _ _ _ _ _ _ _ _ _ _ (ready _ _ _ _ _ _ _ _ _ _ (start .pre .1 .0) (start .pre .1 .1 .0) (start .pre .1 .1 .1 .0)) (omega (arith, at-operand .operand .ensures, (start .pre .1 .1 .1 .1 .0))) (at-visit .visit .ensures) (went _ _ _ (at-is-refused .is-refused .ensures) (at-if1 .if1 .left)) (at-visit .visit .kept .1 .0) (at-visit .visit .kept .1 .1 .0)) .laid, (omega (arith, c .operand2 .ensures, (start .pre .1 .1 .1 .1 .1 .0), (start .pre .1 .1 .0)), (sym (at-is-refused .is-refused .ensures) ∙ at-if1 .if1 .left))))
+
+  is-refused-requires-2 : lts.Need-is-refused-requires-2 claims (process-read-at t) process-read.Post
+  is-refused-requires-2 c κs = search needs
+
+  same-length-3 : lts.Need-same-length-3 claims (process-read-at t) process-read.Post
+  same-length-3 c =
+      let at-visit2 = c .before .before .before .before .before .before .before in
+      let at-visit = at-visit2 .before .before .before .before .before .before .before .before .before .before .before .before in
+      at-visit2 .visit2 .kept .1 .0 ∙ at-visit .visit .kept .1 .0
+
+  same-length-4 : lts.Need-same-length-4 claims (process-read-at t) process-read.Post
+  same-length-4 c =
+      let at-visit2 = c .before .before .before .before .before .before .before in
+      let at-visit = at-visit2 .before .before .before .before .before .before .before .before .before .before .before .before in
+      at-visit2 .visit2 .kept .1 .1 .0 ∙ at-visit .visit .kept .1 .1 .0
+
+  returns-2 : lts.Need-returns-2 claims (process-read-at t) process-read.Post
+  returns-2 c =
+      let at-visit2 = c .before .before .before .before .before .before .before in
+      let at-operand2 = at-visit2 .before in
+      let at-if1 = at-operand2 .before .before .before .before in
+      let at-is-refused = at-if1 .before in
+      let at-visit = at-is-refused .before .before .before .before .before .before in
+      let at-operand = at-visit .before in
+      let start = at-operand .before .before .before .before .before .before .before in
+      λ h f l. let m = at-visit .visit .ensures h f (omega (arith, at-operand .operand .ensures, (start .pre .1 .1 .1 .1 .0), l)) in two-stop-2 (start .args .given .now) (inputsIn (start .args .given .now) (start .args .call .now)) (repliesIn (start .args .given .now) (start .args .call .now)) (waysBy (start .args .given .now) (start .args .dumps .now) (start .args .call .now)) (visitOf (start .args .given .now) (waysBy (start .args .given .now) (start .args .dumps .now) (start .args .call .now)) f) (start .args .node) (view h (start .args .given .now) (inputsIn (start .args .given .now) (start .args .call .now)) (repliesIn (start .args .given .now) (start .args .call .now)) (start .args .result .now) (start .args .scratch .now) (walkIn (start .args .counters .now))) _ _ _ _ _ _ _ _ (came-done _ _ _ _ _ _ _ m _ _ (went _ _ _ (at-is-refused .is-refused .ensures) (at-if1 .if1 .left))) _ _ (at-visit2 .visit2 .ensures (m .0) f (omega (arith, at-operand2 .operand2 .ensures, (start .pre .1 .1 .1 .1 .1 .0), l))) (stopped _ _ _ (c .before .is-refused2 .ensures) (c .if2 .taken)) (afterRead (start .args .given .now) (waysBy (start .args .given .now) (start .args .dumps .now) (start .args .call .now))) (at-operand .operand .ensures) (at-operand2 .operand2 .ensures)
+
+  operand-requires-3 : lts.Need-operand-requires-3 claims (process-read-at t) process-read.Post
+  operand-requires-3 c κs =
+      let start = c .before .before .before .before .before .before .before .before .before .before .before .before .before .before .before .before .before .before .before .before .before .before .before .before .before .before .before .before in
+      omega (arith, (start .pre .1 .0) .whole, (start .pre .1 .1 .0))
+
+  put-row-requires : lts.Need-put-row-requires claims (process-read-at t) process-read.Post
+  put-row-requires c κs =
+      let at-if2 = c .before .before in
+      let at-is-refused2 = at-if2 .before in
+      let at-visit2 = at-is-refused2 .before .before .before .before .before .before in
+      let at-operand2 = at-visit2 .before in
+      let at-if1 = at-operand2 .before .before .before .before in
+      let at-is-refused = at-if1 .before in
+      let at-visit = at-is-refused .before .before .before .before .before .before in
+      let at-operand = at-visit .before in
+      let start = at-operand .before .before .before .before .before .before .before in
+      (((start .pre .1 .1 .0), (start .pre .1 .0) .small), (omega (arith, (start .pre .1 .0) .room, at-visit .visit .kept .1 .0, at-visit2 .visit2 .kept .1 .0), ready-kept _ _ _ _ _ _ _ _ _ _ (ready-on _ _ _ _ _ _ _ _ _ _ _ _ _ _ _ _ (ready-on _ _ _ _ _ _ _ _ _ _ _ _ _ _ _ _ (ready _ _ _ _ _ _ _ _ _ _ (start .pre .1 .0) (start .pre .1 .1 .0) (start .pre .1 .1 .1 .0)) (omega (arith, at-operand .operand .ensures, (start .pre .1 .1 .1 .1 .0))) (at-visit .visit .ensures) (went _ _ _ (at-is-refused .is-refused .ensures) (at-if1 .if1 .left)) (at-visit .visit .kept .1 .0) (at-visit .visit .kept .1 .1 .0)) (omega (arith, at-operand2 .operand2 .ensures, (start .pre .1 .1 .1 .1 .1 .0))) (at-visit2 .visit2 .ensures) (went _ _ _ (at-is-refused2 .is-refused2 .ensures) (at-if2 .if2 .left)) (at-visit2 .visit2 .kept .1 .0) (at-visit2 .visit2 .kept .1 .1 .0))))
+
+  read-requires : lts.Need-read-requires claims (process-read-at t) process-read.Post
+  read-requires c κs =
+      let at-put-row = c .before .before .before .before .before in
+      let at-if2 = at-put-row .before .before .before in
+      let at-is-refused2 = at-if2 .before in
+      let at-visit2 = at-is-refused2 .before .before .before .before .before .before in
+      let at-operand2 = at-visit2 .before in
+      let at-if1 = at-operand2 .before .before .before .before in
+      let at-is-refused = at-if1 .before in
+      let at-visit = at-is-refused .before .before .before .before .before .before in
+      let at-operand = at-visit .before in
+      let start = at-operand .before .before .before .before .before .before .before in
+      ((room-row _ _ _ _ _ _ (at-put-row .put-row .kept .1 .0) (ready-room _ _ _ _ _ _ _ _ _ _ (ready-on _ _ _ _ _ _ _ _ _ _ _ _ _ _ _ _ (ready-on _ _ _ _ _ _ _ _ _ _ _ _ _ _ _ _ (ready _ _ _ _ _ _ _ _ _ _ (start .pre .1 .0) (start .pre .1 .1 .0) (start .pre .1 .1 .1 .0)) (omega (arith, at-operand .operand .ensures, (start .pre .1 .1 .1 .1 .0))) (at-visit .visit .ensures) (went _ _ _ (at-is-refused .is-refused .ensures) (at-if1 .if1 .left)) (at-visit .visit .kept .1 .0) (at-visit .visit .kept .1 .1 .0)) (omega (arith, at-operand2 .operand2 .ensures, (start .pre .1 .1 .1 .1 .1 .0))) (at-visit2 .visit2 .ensures) (went _ _ _ (at-is-refused2 .is-refused2 .ensures) (at-if2 .if2 .left)) (at-visit2 .visit2 .kept .1 .0) (at-visit2 .visit2 .kept .1 .1 .0)))), ((sym (at-is-refused2 .is-refused2 .ensures) ∙ at-if2 .if2 .left), falls-row [] (start .args .given .now) (inputsIn (start .args .given .now) (start .args .call .now)) (repliesIn (start .args .given .now) (start .args .call .now)) _ _ (start .args .scratch .now) (walkIn (at-visit2 .visit2 .last .1 .1 .1 .1 .1 .0)) (start .args .node) _ _ _ (start .pre .1 .1 .1 .1 .1 .1 .0) (at-put-row .put-row .ensures [] (inputsIn (start .args .given .now) (start .args .call .now)) (repliesIn (start .args .given .now) (start .args .call .now)) (start .args .scratch .now) _) (ready-falls _ _ _ _ _ _ _ _ _ _ (ready-on _ _ _ _ _ _ _ _ _ _ _ _ _ _ _ _ (ready-on _ _ _ _ _ _ _ _ _ _ _ _ _ _ _ _ (ready _ _ _ _ _ _ _ _ _ _ (start .pre .1 .0) (start .pre .1 .1 .0) (start .pre .1 .1 .1 .0)) (omega (arith, at-operand .operand .ensures, (start .pre .1 .1 .1 .1 .0))) (at-visit .visit .ensures) (went _ _ _ (at-is-refused .is-refused .ensures) (at-if1 .if1 .left)) (at-visit .visit .kept .1 .0) (at-visit .visit .kept .1 .1 .0)) (omega (arith, at-operand2 .operand2 .ensures, (start .pre .1 .1 .1 .1 .1 .0))) (at-visit2 .visit2 .ensures) (went _ _ _ (at-is-refused2 .is-refused2 .ensures) (at-if2 .if2 .left)) (at-visit2 .visit2 .kept .1 .0) (at-visit2 .visit2 .kept .1 .1 .0)))))
+
+  same-length-5 : lts.Need-same-length-5 claims (process-read-at t) process-read.Post
+  same-length-5 c =
+      let at-read = c .before .before .before .before in
+      let at-put-row = at-read .before .before .before .before .before .before in
+      let at-visit2 = at-put-row .before .before .before .before .before .before .before .before .before .before in
+      let at-visit = at-visit2 .before .before .before .before .before .before .before .before .before .before .before .before in
+      at-read .read .kept .1 .1 .0 ∙ at-put-row .put-row .kept .1 .0 ∙ at-visit2 .visit2 .kept .1 .0 ∙ at-visit .visit .kept .1 .0
+
+  same-length-6 : lts.Need-same-length-6 claims (process-read-at t) process-read.Post
+  same-length-6 c =
+      let at-read = c .before .before .before .before in
+      let at-visit2 = at-read .before .before .before .before .before .before .before .before .before .before .before .before .before .before .before .before in
+      let at-visit = at-visit2 .before .before .before .before .before .before .before .before .before .before .before .before in
+      at-read .read .kept .1 .1 .1 .0 ∙ at-visit2 .visit2 .kept .1 .1 .0 ∙ at-visit .visit .kept .1 .1 .0
+
+  returns-3 : lts.Need-returns-3 claims (process-read-at t) process-read.Post
+  returns-3 c =
+      let at-read = c .before .before .before .before in
+      let at-put-row = at-read .before .before .before .before .before .before in
+      let at-operand3 = at-put-row .before in
+      let at-if2 = at-operand3 .before .before in
+      let at-is-refused2 = at-if2 .before in
+      let at-visit2 = at-is-refused2 .before .before .before .before .before .before in
+      let at-operand2 = at-visit2 .before in
+      let at-if1 = at-operand2 .before .before .before .before in
+      let at-is-refused = at-if1 .before in
+      let at-visit = at-is-refused .before .before .before .before .before .before in
+      let at-operand = at-visit .before in
+      let start = at-operand .before .before .before .before .before .before .before in
+      λ h f l. let m = at-visit .visit .ensures h f (omega (arith, at-operand .operand .ensures, (start .pre .1 .1 .1 .1 .0), l)) in let p = at-visit2 .visit2 .ensures (m .0) f (omega (arith, at-operand2 .operand2 .ensures, (start .pre .1 .1 .1 .1 .1 .0), l)) in (p .0, two-go (start .args .given .now) (waysBy (start .args .given .now) (start .args .dumps .now) (start .args .call .now)) (visitOf (start .args .given .now) (waysBy (start .args .given .now) (start .args .dumps .now) (start .args .call .now)) f) (start .args .node) (view h (start .args .given .now) (inputsIn (start .args .given .now) (start .args .call .now)) (repliesIn (start .args .given .now) (start .args .call .now)) (start .args .result .now) (start .args .scratch .now) (walkIn (start .args .counters .now))) _ _ _ (came-done _ _ _ _ _ _ _ m _ _ (went _ _ _ (at-is-refused .is-refused .ensures) (at-if1 .if1 .left))) _ _ _ (came-done _ _ _ _ _ _ _ p _ _ (went _ _ _ (at-is-refused2 .is-refused2 .ensures) (at-if2 .if2 .left))) (afterRead (start .args .given .now) (waysBy (start .args .given .now) (start .args .dumps .now) (start .args .call .now))) _ _ _ (at-operand .operand .ensures) (at-operand2 .operand2 .ensures) (at-operand3 .operand3 .ensures) (at-put-row .put-row .ensures (p .0) _ _ _ _) (at-read .read .ensures (p .0) _ (start .args .dumps .now)))
+
+  pub proved : {M : Type 1} → lts.Closed claims (process-read-at t) process-read.Post M
+  proved = lts.spec claims (process-read-at t) process-read.Post operand-requires visit-requires is-refused-requires same-length same-length-2 returns operand-requires-2 visit-requires-2 is-refused-requires-2 same-length-3 same-length-4 returns-2 operand-requires-3 put-row-requires read-requires same-length-5 same-length-6 returns-3
