@@ -10,10 +10,10 @@ use native.Mathlib.Omega.{arith}
 use lib.Dec.{eqb}
 use Rattle.btor.specs.Operators.{Reading}
 use Rattle.rules.specs.Lists.{allTrue, every, All}
-use Rattle.rules.specs.Table.{Kind, Const, Read, Write, Word, Ult, Ext, Ite, Eq, And, Or, Not, State, Next, Input, Bad, Node, is, with, operandsAs, operands, operandWordsAs, moved, renumberAs, renumber}
+use Rattle.rules.specs.Table.{Kind, Const, Read, Write, Word, Ult, Ext, Ite, Eq, And, Or, Not, State, Next, Input, Bad, Node, is, with, nodeAt, operandsAs, operands, operandWordsAs, moved, renumberAs, renumber}
 use Rattle.rules.specs.Check.{unusedAs, mayServe}
 use Rattle.rules.specs.Value.{Value, meaning, worth, value}
-use Rattle.rules.specs.Renumber.{RenumberedRow, RenumberedTwice, RenumberedNone, SameMap, SameButOperands, Solves, Down, Carries, SolvedAlong, ValuesAlong, ThreeAlong, FiveAlong}
+use Rattle.rules.specs.Renumber.{RenumberedRow, RenumberedTwice, RenumberedNone, SameMap, SameButOperands, Solves, Down, Carries, SolvedAlong, ValuesAlong, ThreeAlong, FiveAlong, summed, constantFirst, toFirst, AlongWorked}
 use Rattle.rules.proofs.Base.{cases-cond, all-map, is-kind, kind-is}
 use Rattle.rules.proofs.Values.{meaning-same, solves}
 use Rattle.rules.proofs.Passes.{coded-three, same-three, SortsLike, same-sorts}
@@ -265,3 +265,23 @@ five-along at at′ f nd h =
     ∙ every-mapped (λ x. mayServe (at′ x)) (λ x. mayServe (at x)) f (operands nd) (all-map _ (λ x. mayServe (at′ (f x)) ≡ mayServe (at x)) (λ x e. ap mayServe e) (operands nd) h))
     (ap allTrue (same-sorts at′ at (nd .kind) (renumber f nd) nd (renumbered-rest f nd) refl (state-along at at′ f nd h)
     (subst (λ xs. SortsLike at′ at xs (operands nd)) (sym (operands-as (nd .kind) f nd)) (sorts-like at at′ f (operands nd) h))))
+
+-- ---- at work
+first-rows : (k : ℕ) → k < 3 → nodeAt constantFirst (toFirst k) ≡ renumber toFirst (nodeAt summed k)
+first-rows zero l = refl
+first-rows (suc zero) l = refl
+first-rows (suc (suc zero)) l = refl
+first-rows (suc (suc (suc k))) l = let z : ⊥ = omega arith in absurd z
+
+-- before their row, by the old numbers and by the new
+first-down : (f : ℕ → ℕ) → f 0 < f 2 → f 1 < f 2 → Down (nodeAt summed) f (λ k. k < 3)
+first-down f p q zero l = tt
+first-down f p q (suc zero) l = tt
+first-down f p q (suc (suc zero)) l = ((omega arith, inl p), ((omega arith, inl q), tt))
+first-down f p q (suc (suc (suc k))) l = let z : ⊥ = omega arith in absurd z
+
+pub along-worked : AlongWorked
+unfolding AlongWorked ValuesAlong
+along-worked how α α′ h =
+    values-along how (nodeAt summed) (nodeAt constantFirst) α α′ (λ k. k < 3) toFirst
+    (record { row = first-rows; given = h; down = first-down toFirst (omega arith) (omega arith) }) (first-down (λ k. k) (omega arith) (omega arith))

@@ -3,17 +3,21 @@
 --     RenumberedTwice, SameMap              maps in turn, and maps that agree on the operands
 --     SolvedAlong, ValuesAlong              the values of rows along a map that carries lookups to lookups
 --     ThreeAlong, FiveAlong                 rules 3 and 5
+--     AlongWorked                           a table of three along a map that is not monotone
 -- Assumes nothing.
 use Prim.Native.Nat.{ℕ, _<_}
 use mathlib.Core.Path.{_≡_}
 use mathlib.Core.Logic.{_⊎_}
-use mathlib.Core.Bool.{true}
-use mathlib.Core.List.{map}
-use Rattle.btor.specs.Operators.{Reading}
+use mathlib.Core.Bool.{true, cond}
+use mathlib.Core.List.{List, [], _∷_, map}
+use lib.Dec.{eqb}
+use Rattle.btor.specs.Operators.{Reading, Add}
+use Rattle.btor.specs.Sorts.{wordCode}
 use Rattle.rules.specs.Lists.{All}
-use Rattle.rules.specs.Table.{Const, Ext, State, Node, coded, is, operands, renumber}
+use Rattle.rules.specs.Table.{Const, Word, Ext, State, Input, Node, coded, is, constant, nodeAt, operands, renumber}
 use Rattle.rules.specs.Check.{unusedAs, rule3, rule5At}
 use Rattle.rules.specs.Value.{Value, worth, value}
+use Rattle.rules.specs.Cases.{node}
 
 -- ---- one row
 -- nd keeps g's kind, sort, name and unused words, a Const its number, an Ext its from, a State its b
@@ -80,3 +84,18 @@ ThreeAlong = (names : ℕ) (f : ℕ → ℕ) (nd : Node) → rule3 names (coded 
 unfoldable pub FiveAlong : Type 0
 FiveAlong =
     (at at′ : ℕ → Node) (f : ℕ → ℕ) (nd : Node) → All (λ x. at′ (f x) ≡ renumber f (at x)) (operands nd) → rule5At at′ (renumber f nd) ≡ rule5At at nd
+
+-- ---- at work: an Input, the number 5 and their sum, and the same with the constant put first
+abbrev pub summed : List Node
+summed = node Input wordCode 0 0 0 ∷ constant wordCode 5 ∷ node (Word Add) wordCode 0 1 0 ∷ []
+
+abbrev pub constantFirst : List Node
+constantFirst = constant wordCode 5 ∷ node Input wordCode 0 0 0 ∷ node (Word Add) wordCode 1 0 0 ∷ []
+
+abbrev pub toFirst : ℕ → ℕ
+toFirst k = cond (eqb k 0) 1 (cond (eqb k 1) 0 k)
+
+unfoldable pub AlongWorked : Type 0
+AlongWorked =
+    (how : Reading) (α α′ : ℕ → Value) → ((k : ℕ) → k < 3 → α′ (toFirst k) ≡ α k)
+    → (k : ℕ) → k < 3 → value how (nodeAt constantFirst) α′ (toFirst k) ≡ value how (nodeAt summed) α k
