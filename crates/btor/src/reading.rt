@@ -1,6 +1,6 @@
-// Whose operators a word is computed by.
+// Whose reading of a model: the Rust's or the standard's (BTOR2, SMT-LIB).
 
-// The Rust's or the standard's (BTOR2, SMT-LIB); they differ in Div and Rem alone.
+// Of the operators only Div and Rem differ.
 pub enum Reading {
     Rust,
     Standard,

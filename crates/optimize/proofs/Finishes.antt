@@ -1,7 +1,7 @@
 -- What comes after a node's operands: it is finished, asked about, takes an input or is forwarded, as the rules say.
 -- Assumes nothing.
 use Prim.Native.Nat.{ℕ, suc, _+_, _<_, _≤_}
-use mathlib.Core.Path.{_≡_, refl, ap, sym, _∙_, subst}
+use mathlib.Core.Path.{_≡_, refl, ap, ap₂, sym, _∙_, subst}
 use mathlib.Core.Bool.{Bool, true, false}
 use mathlib.Core.Option.{Option}
 use mathlib.Core.List.{List, [], _∷_, _++_}
@@ -10,9 +10,8 @@ use lib.ListN.{length, getD, drop, drop-of-length-le, List·getD-eq-default}
 use lib.Dec.{eqb}
 use lib.Seq.{drop-cons}
 use borrow.Author.Tests.{eq-eqb, ne-eqb}
-use Rattle.btor.specs.Operators.{rust}
+use Rattle.btor.specs.Operators.{Reading}
 use Rattle.rules.specs.Model.{Mode}
-use Rattle.rules.specs.Limits.{modeOf}
 use Rattle.rules.specs.Refusal.{Out, done, refuse}
 use Rattle.rules.specs.Table.{fits}
 use Rattle.rules.specs.Walk.{St, Held, setInputs, addHeld, addTally}
@@ -71,12 +70,12 @@ module _ (h : List Held) (g inputs replies R S : List ℕ) (w : Walk) (ways : Wa
   unfolding view
   one-is rule x F e = ap (settle (tableOf g) ways k (view h g inputs replies R S w)) e
 
-  pub two-is : (rule : Rule) (x y : ℕ) (F : Fold) (b : Bool)
-      → F ≡ foldTwo (ways .reading) rule (countOf g) (wordOf g k 1) x y (constOf (rowsOf (countOf g) (w .made) R) x) (constOf (rowsOf (countOf g) (w .made) R) y)
+  pub two-is : (rule : Rule) (x y : ℕ) (how : Reading) (F : Fold) (b : Bool) → how ≡ ways .reading
+      → F ≡ foldTwo how rule (countOf g) (wordOf g k 1) x y (constOf (rowsOf (countOf g) (w .made) R) x) (constOf (rowsOf (countOf g) (w .made) R) y)
       → b ≡ asksBit rule (wordOf g k 1)
       → finish (tableOf g) ways k (view h g inputs replies R S w) F (bitOf g ways k b) ≡ afterTwo g ways rule (view h g inputs replies R S w) k x y
   unfolding view
-  two-is rule x y F b e d = rw (e, d)
+  two-is rule x y how F b q e d = rw (e, q, d)
 
   pub read-is : (x y : ℕ) (c : Option ℕ) → c ≡ constOf (rowsOf (countOf g) (w .made) R) y
       → forward (tableOf g) ways k (view h g inputs replies R S w) x c ≡ afterRead g ways (view h g inputs replies R S w) k x y
@@ -84,27 +83,24 @@ module _ (h : List Held) (g inputs replies R S : List ℕ) (w : Walk) (ways : Wa
   read-is x y c e = ap (forward (tableOf g) ways k (view h g inputs replies R S w) x) e
 
 -- ---- forwarding
-module _ (h : List Held) (g inputs replies dumps R S : List ℕ) (word : ℕ) (w : Walk) (k m : ℕ) where
-  abbrev ways : Ways
-  ways = waysIn dumps (modeOf word) replies
-
+module _ (h : List Held) (g inputs replies R S : List ℕ) (w : Walk) (ways : Ways) (k m : ℕ) where
   pub forward-none : (c : Constant) → c ≡ Constant.None
       → settle (tableOf g) ways k (view h g inputs replies R S w) stays ≡ forward (tableOf g) ways k (view h g inputs replies R S w) m (constantIs c)
   unfolding forward
   forward-none c e = sym (ap (λ z. forward (tableOf g) ways k (view h g inputs replies R S w) m (constantIs z)) e)
 
   -- what a search found is recorded with its counts
-  pub forward-some : (c : Constant) (x : ℕ) (s : Search) (w′ : Walk) (p : ℕ) (F : Fold) → c ≡ Constant.Imm x
-      → searchIs s ≡ find rust (countOf g) (rowsOf (countOf g) (w .made) R) x m
+  pub forward-some : (c : Constant) (x : ℕ) (how : Reading) (s : Search) (w′ : Walk) (p : ℕ) (F : Fold) → c ≡ Constant.Imm x → how ≡ ways .reading
+      → searchIs s ≡ find how (countOf g) (rowsOf (countOf g) (w .made) R) x m
       → p ≡ passedBy (valueIs (s .found)) (s .passed) → F ≡ foldFound (valueIs (s .found))
       → view h g inputs replies R S w′ ≡ addTally (view h g inputs replies R S w) (s .looked) p
       → settle (tableOf g) ways k (view h g inputs replies R S w′) F ≡ forward (tableOf g) ways k (view h g inputs replies R S w) m (constantIs c)
   unfolding forward view
-  forward-some c x s w′ p F e q ep ef ew =
+  forward-some c x how s w′ p F e i q ep ef ew =
       let σ : St = view h g inputs replies R S w in
       ap (λ τ. settle (tableOf g) ways k τ F) ew
       ∙ rw (ep, ef)
-      (ap (λ (r : rules.Found). settle (tableOf g) ways k (addTally σ (r .looked) (passedBy (r .value) (r .unsettled))) (foldFound (r .value))) (q ∙ ap (λ n. find rust n (σ .rows) x m) (sym (table-length g)))
+      (ap (λ (r : rules.Found). settle (tableOf g) ways k (addTally σ (r .looked) (passedBy (r .value) (r .unsettled))) (foldFound (r .value))) (q ∙ ap₂ (λ r n. find r n (σ .rows) x m) i (sym (table-length g)))
       ∙ sym (ap (λ z. forward (tableOf g) ways k σ m (constantIs z)) e))
 
 pub tally-is : (h : List Held) (g inputs replies R S : List ℕ) (w : Walk) (l p : ℕ)

@@ -6,7 +6,6 @@ use mathlib.Core.Bool.{Bool, true, false, cond}
 use mathlib.Core.List.{List, [], _∷_}
 use native.Mathlib.Omega.{arith}
 use lib.Dec.{eqb}
-use Rattle.rules.specs.Limits.{modeOf}
 use Rattle.rules.specs.Refusal.{Out, refused, done, _>>=_}
 use Rattle.rules.specs.Lists.{All}
 use Rattle.rules.specs.Table.{Kind, Const, Read, Write, Word, Ult, Ext, Ite, Eq, And, Or, Not, State, Next, Input, Bad, Node, kindOf, operandsAs}
@@ -17,7 +16,7 @@ use Rattle.rules.specs.Visit.{Ways, Branch, left, right, undecided, branch, vis
 use Rattle.optimize.specs.declared.form.Form.{Form}
 use Rattle.optimize.specs.Bounds.{countOf}
 use Rattle.rules.specs.Sections.{wordOf}
-use Rattle.optimize.specs.View.{nodeOf, tableOf, waysIn}
+use Rattle.optimize.specs.View.{nodeOf, tableOf}
 use Rattle.optimize.specs.declared.fold.Rule.{Rule}
 use Rattle.optimize.specs.declared.fold.Single.{Single}
 use Rattle.optimize.specs.Folding.{operatorOf}
@@ -36,10 +35,7 @@ bind-same (refused z) f k h = refl
 bind-same (done x) f k h = h x
 
 -- ---- process by form
-module _ (g dumps replies : List ℕ) (word : ℕ) (vis : St → ℕ → Out (St × ℕ)) (σ : St) (k : ℕ) where
-  abbrev ways : Ways
-  ways = waysIn dumps (modeOf word) replies
-
+module _ (g : List ℕ) (ways : Ways) (vis : St → ℕ → Out (St × ℕ)) (σ : St) (k : ℕ) where
   abbrev byKind : Kind → Out (St × ℕ)
   byKind K = process (tableOf g) ways vis K σ k (nodeOf g k)
 

@@ -1,5 +1,7 @@
 // What a call fixes, as five words that visits are lent: where its inputs start and end among the given words, where its replies do, and its mode.
+use btor::reading::Reading;
 ghost use mathlib.Core.Path.{_≡_};
+ghost use Rattle.btor.specs.Readings.{readingIs};
 ghost use Rattle.optimize.specs.CallWords.{between, inputsIn, repliesIn, modeIn};
 ghost use Rattle.rules.specs.Limits.{adds};
 ghost use Prim.Native.Nat.{_<_};
@@ -63,4 +65,11 @@ pub(crate) fn asks_once(call: &CallWords) -> bool
     ensures { λ r. ⌜ r ≡ modeIn (now (call .entry)) .oneQuery ⌝ }
 {
     adds(call[4], 4)
+}
+
+// Whose operators and reads it folds by: the Rust's in every mode.
+pub(crate) fn reading_in(call: &CallWords) -> Reading
+    ensures { λ r. ⌜ readingIs r ≡ modeIn (now (call .entry)) .reading ⌝ }
+{
+    Reading::Rust
 }

@@ -7,6 +7,7 @@ use crate::buffers::put_mark;
 use crate::buffers::word;
 use crate::call_words::CallWords;
 use crate::call_words::minimises;
+use crate::call_words::reading_in;
 use crate::call_words::replies_in;
 use crate::counters::Counters;
 use crate::counters::is_refused;
@@ -26,7 +27,6 @@ use crate::solve::solve_boolean_binary;
 use crate::solve::solve_ite_bit;
 use crate::solve::solve_ite_word;
 use btor::node_type::NodeType;
-use btor::reading::Reading;
 ghost use Prim.Native.Nat.{_<_};
 ghost use mathlib.Core.Path.{_≡_};
 ghost use lib.ListN.{getD};
@@ -181,10 +181,11 @@ pub(crate) fn read(
     requires { ⌜ Falls (countOf (now given)) (getD (now counters) 0 0) (now result) ⌝ }
     ensures { λ r. ⌜ SettlesBy given result scratch counters r call (λ g ways σ. afterRead g ways σ node x y) ⌝ }
 {
+    let how = reading_in(call);
     let Constant::Imm(address) = get_constant(given, result, counters[0], y) else {
         return settle(given, result, scratch, counters, node, Folded::Stays);
     };
-    let search = find_in_memory(Reading::Rust, given, result, counters[0], x, address);
+    let search = find_in_memory(how, given, result, counters[0], x, address);
     let found = search.found;
     match found {
         Found::Value(value) => {
@@ -214,11 +215,12 @@ pub(crate) fn after_two(
     requires { ⌜ Going (now counters) ⌝ }
     ensures { λ r. ⌜ SettlesBy given result scratch counters r call (λ g ways σ. afterTwo g ways rule σ node x y) ⌝ }
 {
+    let how = reading_in(call);
     let n = node_count(given);
     let sort = word(given, node, 1);
     let left = get_constant(given, result, counters[0], x);
     let right = get_constant(given, result, counters[0], y);
-    let fold = fold_two(Reading::Rust, rule, n, sort, x, y, left, right);
+    let fold = fold_two(how, rule, n, sort, x, y, left, right);
     let bit = asks_bit(rule, sort);
     finish(given, call, result, scratch, counters, node, bit, fold)
 }

@@ -8,6 +8,9 @@ use Rattle.optimize.specs.Counters.{walkIn}
 use Rattle.optimize.proofs.settle.after_two.Statement.{statement}
 use Rattle.optimize.proofs.settle.after_two.Tie as tie
 
+reading-in-requires : tie.Need-reading-in-requires
+reading-in-requires c κs = search needs
+
 node-count-requires : tie.Need-node-count-requires
 node-count-requires c κs = search needs
 
@@ -50,8 +53,9 @@ returns c =
     let at-get-constant = at-get-constant2 .before .before .before in
     let at-word = at-get-constant .before .before .before in
     let at-node-count = at-word .before in
-    let start = at-node-count .before .before .before .before in
-    λ h inputs dumps. at-finish .finish .ensures h inputs dumps ∙ two-is h (start .args .given .now) inputs (repliesIn (start .args .given .now) (start .args .call .now)) (start .args .result .now) (start .args .scratch .now) (walkIn (start .args .counters .now)) (waysBy (start .args .given .now) dumps (start .args .call .now)) (start .args .node) (start .args .rule) (start .args .x) (start .args .y) _ _ (at-fold-two .fold-two .ensures ∙ rw (at-word .word .ensures, at-node-count .node-count .ensures, at-get-constant .get-constant .ensures, at-get-constant2 .get-constant2 .ensures)) (at-asks-bit .asks-bit .ensures ∙ rw (at-word .word .ensures))
+    let at-reading-in = at-node-count .before in
+    let start = at-reading-in .before .before .before .before in
+    λ h inputs dumps. at-finish .finish .ensures h inputs dumps ∙ two-is h (start .args .given .now) inputs (repliesIn (start .args .given .now) (start .args .call .now)) (start .args .result .now) (start .args .scratch .now) (walkIn (start .args .counters .now)) (waysBy (start .args .given .now) dumps (start .args .call .now)) (start .args .node) (start .args .rule) (start .args .x) (start .args .y) _ _ _ (at-reading-in .reading-in .ensures) (at-fold-two .fold-two .ensures ∙ rw (at-word .word .ensures, at-node-count .node-count .ensures, at-get-constant .get-constant .ensures, at-get-constant2 .get-constant2 .ensures)) (at-asks-bit .asks-bit .ensures ∙ rw (at-word .word .ensures))
 
 pub after-two-spec : {M : Type 1} → statement M
-after-two-spec = tie.close (tie.spec node-count-requires word-requires element-copy-out-get-constant get-constant-requires element-copy-out-get-constant-2 get-constant-requires-2 fold-two-requires asks-bit-requires finish-requires same-length same-length-2 returns)
+after-two-spec = tie.close (tie.spec reading-in-requires node-count-requires word-requires element-copy-out-get-constant get-constant-requires element-copy-out-get-constant-2 get-constant-requires-2 fold-two-requires asks-bit-requires finish-requires same-length same-length-2 returns)

@@ -17,6 +17,9 @@ use Rattle.optimize.proofs.Finishes.{read-is, forward-none, forward-som
 use Rattle.optimize.proofs.settle.read.Statement.{statement}
 use Rattle.optimize.proofs.settle.read.Tie as tie
 
+reading-in-requires : tie.Need-reading-in-requires
+reading-in-requires c κs = search needs
+
 element-copy-out-get-constant : tie.Need-element-copy-out-get-constant
 element-copy-out-get-constant c = search needs
 
@@ -31,7 +34,7 @@ enum-told c = search needs
 
 settle-requires : tie.Need-settle-requires
 settle-requires c κs =
-    let start = c .before .before .before .before .before .before .before .before .before .before .before in
+    let start = c .before .before .before .before .before .before .before .before .before .before .before .before in
     let r = start .pre .0 in ((omega (arith, r .whole), r .small, r .inside), ((r .room, omega (arith, r .asks)), (r .few, start .pre .1 .0)))
 
 same-length : tie.Need-same-length
@@ -45,15 +48,15 @@ returns c =
     let at-settle = c .before .before .before .before in
     let at-enum-told = at-settle .before .before .before .before in
     let at-get-constant = at-enum-told .before .before in
-    let start = at-get-constant .before .before .before .before .before .before in
-    λ h inputs dumps. at-settle .settle .ensures h inputs (repliesIn (start .args .given .now) (start .args .call .now)) (waysBy (start .args .given .now) dumps (start .args .call .now)) ∙ forward-none h (start .args .given .now) inputs (repliesIn (start .args .given .now) (start .args .call .now)) dumps (start .args .result .now) (start .args .scratch .now) (getD (start .args .call .now) 4 0) (walkIn (start .args .counters .now)) (start .args .node) (start .args .x) _ (at-enum-told .enum-told .given .1) ∙ read-is h (start .args .given .now) inputs (repliesIn (start .args .given .now) (start .args .call .now)) (start .args .result .now) (start .args .scratch .now) (walkIn (start .args .counters .now)) (waysBy (start .args .given .now) dumps (start .args .call .now)) (start .args .node) (start .args .x) (start .args .y) _ (at-get-constant .get-constant .ensures)
+    let start = at-get-constant .before .before .before .before .before .before .before in
+    λ h inputs dumps. at-settle .settle .ensures h inputs (repliesIn (start .args .given .now) (start .args .call .now)) (waysBy (start .args .given .now) dumps (start .args .call .now)) ∙ forward-none h (start .args .given .now) inputs (repliesIn (start .args .given .now) (start .args .call .now)) (start .args .result .now) (start .args .scratch .now) (walkIn (start .args .counters .now)) (waysBy (start .args .given .now) dumps (start .args .call .now)) (start .args .node) (start .args .x) _ (at-enum-told .enum-told .given .1) ∙ read-is h (start .args .given .now) inputs (repliesIn (start .args .given .now) (start .args .call .now)) (start .args .result .now) (start .args .scratch .now) (walkIn (start .args .counters .now)) (waysBy (start .args .given .now) dumps (start .args .call .now)) (start .args .node) (start .args .x) (start .args .y) _ (at-get-constant .get-constant .ensures)
 
 element-copy-out-find-in-memory : tie.Need-element-copy-out-find-in-memory
 element-copy-out-find-in-memory c = search needs
 
 find-in-memory-requires : tie.Need-find-in-memory-requires
 find-in-memory-requires c κs =
-    let start = c .before .before .before .before .before .before .before .before .before .before .before in
+    let start = c .before .before .before .before .before .before .before .before .before .before .before .before in
     let r = start .pre .0 in ((omega (arith, r .whole), r .small), (r .room, (omega (arith, r .few), start .pre .1 .1)))
 
 enum-known-found : tie.Need-enum-known-found
@@ -62,14 +65,14 @@ enum-known-found c = search needs
 tally-requires : tie.Need-tally-requires
 tally-requires c κs =
     let at-find-in-memory = c .before .before .before .before in
-    let start = at-find-in-memory .before .before .before .before .before .before .before .before .before .before .before .before in
+    let start = at-find-in-memory .before .before .before .before .before .before .before .before .before .before .before .before .before in
     let r = start .pre .0 in ((r .looks, r .passed), (omega (arith, r .small, at-find-in-memory .find-in-memory .ensures .1 .0), omega (arith, r .small, at-find-in-memory .find-in-memory .ensures .1 .0, at-find-in-memory .find-in-memory .ensures .1 .1)))
 
 settle-requires-2 : tie.Need-settle-requires-2
 settle-requires-2 c κs =
     let at-tally = c .before .before .before in
     let at-find-in-memory = at-tally .before .before .before .before .before in
-    let start = at-find-in-memory .before .before .before .before .before .before .before .before .before .before .before .before in
+    let start = at-find-in-memory .before .before .before .before .before .before .before .before .before .before .before .before .before in
     let r = start .pre .0 in ((omega (arith, r .whole), r .small, r .inside), ((r .room, omega (arith, r .asks)), (subst (λ D. getD D 0 0 < countOf (start .args .given .now)) (sym (at-tally .tally .ensures)) (r .few), still-goes (tallied (walkIn (start .args .counters .now)) (at-find-in-memory .find-in-memory .result .looked) (at-find-in-memory .find-in-memory .result .passed)) (start .args .counters .now) _ (at-tally .tally .ensures) (start .pre .1 .0))))
 
 enum-told-2 : tie.Need-enum-told-2
@@ -78,14 +81,14 @@ enum-told-2 c = search needs
 tally-requires-2 : tie.Need-tally-requires-2
 tally-requires-2 c κs =
     let at-find-in-memory = c .before .before .before in
-    let start = at-find-in-memory .before .before .before .before .before .before .before .before .before .before .before .before in
+    let start = at-find-in-memory .before .before .before .before .before .before .before .before .before .before .before .before .before in
     let r = start .pre .0 in ((r .looks, r .passed), (omega (arith, r .small, at-find-in-memory .find-in-memory .ensures .1 .0), omega arith))
 
 settle-requires-3 : tie.Need-settle-requires-3
 settle-requires-3 c κs =
     let at-tally2 = c .before .before .before in
     let at-find-in-memory = at-tally2 .before .before .before .before in
-    let start = at-find-in-memory .before .before .before .before .before .before .before .before .before .before .before .before in
+    let start = at-find-in-memory .before .before .before .before .before .before .before .before .before .before .before .before .before in
     let r = start .pre .0 in ((omega (arith, r .whole), r .small, r .inside), ((r .room, omega (arith, r .asks)), (subst (λ D. getD D 0 0 < countOf (start .args .given .now)) (sym (at-tally2 .tally2 .ensures)) (r .few), still-goes (tallied (walkIn (start .args .counters .now)) (at-find-in-memory .find-in-memory .result .looked) 0) (start .args .counters .now) _ (at-tally2 .tally2 .ensures) (start .pre .1 .0))))
 
 same-length-3 : tie.Need-same-length-3
@@ -102,8 +105,9 @@ returns-2 c =
     let at-find-in-memory = at-found .before .before in
     let at-address = at-find-in-memory .before .before .before .before in
     let at-get-constant = at-address .before .before in
-    let start = at-get-constant .before .before .before .before .before .before in
-    λ h inputs dumps. at-settle2 .settle2 .ensures h inputs (repliesIn (start .args .given .now) (start .args .call .now)) (waysBy (start .args .given .now) dumps (start .args .call .now)) ∙ forward-some h (start .args .given .now) inputs (repliesIn (start .args .given .now) (start .args .call .now)) dumps (start .args .result .now) (start .args .scratch .now) (getD (start .args .call .now) 4 0) (walkIn (start .args .counters .now)) (start .args .node) (start .args .x) _ _ (at-find-in-memory .find-in-memory .result) _ _ _ (at-address .address .given .1) (at-find-in-memory .find-in-memory .ensures .0) (sym (ap (λ z. passedBy (valueIs z) (at-find-in-memory .find-in-memory .result .passed)) (at-found .found .given .1))) (sym (ap (λ z. foldFound (valueIs z)) (at-found .found .given .1))) (ap (λ (w : Walk). view h (start .args .given .now) inputs (repliesIn (start .args .given .now) (start .args .call .now)) (start .args .result .now) (start .args .scratch .now) w) (walk-put (tallied (walkIn (start .args .counters .now)) (at-find-in-memory .find-in-memory .result .looked) (at-find-in-memory .find-in-memory .result .passed)) (start .args .counters .now) _ (at-tally .tally .ensures)) ∙ tally-is h (start .args .given .now) inputs (repliesIn (start .args .given .now) (start .args .call .now)) (start .args .result .now) (start .args .scratch .now) (walkIn (start .args .counters .now)) _ _) ∙ read-is h (start .args .given .now) inputs (repliesIn (start .args .given .now) (start .args .call .now)) (start .args .result .now) (start .args .scratch .now) (walkIn (start .args .counters .now)) (waysBy (start .args .given .now) dumps (start .args .call .now)) (start .args .node) (start .args .x) (start .args .y) _ (at-get-constant .get-constant .ensures)
+    let at-reading-in = at-get-constant .before .before .before in
+    let start = at-reading-in .before .before .before .before in
+    λ h inputs dumps. at-settle2 .settle2 .ensures h inputs (repliesIn (start .args .given .now) (start .args .call .now)) (waysBy (start .args .given .now) dumps (start .args .call .now)) ∙ forward-some h (start .args .given .now) inputs (repliesIn (start .args .given .now) (start .args .call .now)) (start .args .result .now) (start .args .scratch .now) (walkIn (start .args .counters .now)) (waysBy (start .args .given .now) dumps (start .args .call .now)) (start .args .node) (start .args .x) _ _ _ (at-find-in-memory .find-in-memory .result) _ _ _ (at-address .address .given .1) (at-reading-in .reading-in .ensures) (at-find-in-memory .find-in-memory .ensures .0) (sym (ap (λ z. passedBy (valueIs z) (at-find-in-memory .find-in-memory .result .passed)) (at-found .found .given .1))) (sym (ap (λ z. foldFound (valueIs z)) (at-found .found .given .1))) (ap (λ (w : Walk). view h (start .args .given .now) inputs (repliesIn (start .args .given .now) (start .args .call .now)) (start .args .result .now) (start .args .scratch .now) w) (walk-put (tallied (walkIn (start .args .counters .now)) (at-find-in-memory .find-in-memory .result .looked) (at-find-in-memory .find-in-memory .result .passed)) (start .args .counters .now) _ (at-tally .tally .ensures)) ∙ tally-is h (start .args .given .now) inputs (repliesIn (start .args .given .now) (start .args .call .now)) (start .args .result .now) (start .args .scratch .now) (walkIn (start .args .counters .now)) _ _) ∙ read-is h (start .args .given .now) inputs (repliesIn (start .args .given .now) (start .args .call .now)) (start .args .result .now) (start .args .scratch .now) (walkIn (start .args .counters .now)) (waysBy (start .args .given .now) dumps (start .args .call .now)) (start .args .node) (start .args .x) (start .args .y) _ (at-get-constant .get-constant .ensures)
 
 same-length-5 : tie.Need-same-length-5
 same-length-5 c = search needs
@@ -119,8 +123,9 @@ returns-3 c =
     let at-find-in-memory = at-enum-told2 .before .before in
     let at-address = at-find-in-memory .before .before .before .before in
     let at-get-constant = at-address .before .before in
-    let start = at-get-constant .before .before .before .before .before .before in
-    λ h inputs dumps. at-settle3 .settle3 .ensures h inputs (repliesIn (start .args .given .now) (start .args .call .now)) (waysBy (start .args .given .now) dumps (start .args .call .now)) ∙ forward-some h (start .args .given .now) inputs (repliesIn (start .args .given .now) (start .args .call .now)) dumps (start .args .result .now) (start .args .scratch .now) (getD (start .args .call .now) 4 0) (walkIn (start .args .counters .now)) (start .args .node) (start .args .x) _ _ (at-find-in-memory .find-in-memory .result) _ _ _ (at-address .address .given .1) (at-find-in-memory .find-in-memory .ensures .0) (sym (ap (λ z. passedBy (valueIs z) (at-find-in-memory .find-in-memory .result .passed)) (at-enum-told2 .enum-told2 .given .1))) (sym (ap (λ z. foldFound (valueIs z)) (at-enum-told2 .enum-told2 .given .1))) (ap (λ (w : Walk). view h (start .args .given .now) inputs (repliesIn (start .args .given .now) (start .args .call .now)) (start .args .result .now) (start .args .scratch .now) w) (walk-put (tallied (walkIn (start .args .counters .now)) (at-find-in-memory .find-in-memory .result .looked) 0) (start .args .counters .now) _ (at-tally2 .tally2 .ensures)) ∙ tally-is h (start .args .given .now) inputs (repliesIn (start .args .given .now) (start .args .call .now)) (start .args .result .now) (start .args .scratch .now) (walkIn (start .args .counters .now)) _ _) ∙ read-is h (start .args .given .now) inputs (repliesIn (start .args .given .now) (start .args .call .now)) (start .args .result .now) (start .args .scratch .now) (walkIn (start .args .counters .now)) (waysBy (start .args .given .now) dumps (start .args .call .now)) (start .args .node) (start .args .x) (start .args .y) _ (at-get-constant .get-constant .ensures)
+    let at-reading-in = at-get-constant .before .before .before in
+    let start = at-reading-in .before .before .before .before in
+    λ h inputs dumps. at-settle3 .settle3 .ensures h inputs (repliesIn (start .args .given .now) (start .args .call .now)) (waysBy (start .args .given .now) dumps (start .args .call .now)) ∙ forward-some h (start .args .given .now) inputs (repliesIn (start .args .given .now) (start .args .call .now)) (start .args .result .now) (start .args .scratch .now) (walkIn (start .args .counters .now)) (waysBy (start .args .given .now) dumps (start .args .call .now)) (start .args .node) (start .args .x) _ _ _ (at-find-in-memory .find-in-memory .result) _ _ _ (at-address .address .given .1) (at-reading-in .reading-in .ensures) (at-find-in-memory .find-in-memory .ensures .0) (sym (ap (λ z. passedBy (valueIs z) (at-find-in-memory .find-in-memory .result .passed)) (at-enum-told2 .enum-told2 .given .1))) (sym (ap (λ z. foldFound (valueIs z)) (at-enum-told2 .enum-told2 .given .1))) (ap (λ (w : Walk). view h (start .args .given .now) inputs (repliesIn (start .args .given .now) (start .args .call .now)) (start .args .result .now) (start .args .scratch .now) w) (walk-put (tallied (walkIn (start .args .counters .now)) (at-find-in-memory .find-in-memory .result .looked) 0) (start .args .counters .now) _ (at-tally2 .tally2 .ensures)) ∙ tally-is h (start .args .given .now) inputs (repliesIn (start .args .given .now) (start .args .call .now)) (start .args .result .now) (start .args .scratch .now) (walkIn (start .args .counters .now)) _ _) ∙ read-is h (start .args .given .now) inputs (repliesIn (start .args .given .now) (start .args .call .now)) (start .args .result .now) (start .args .scratch .now) (walkIn (start .args .counters .now)) (waysBy (start .args .given .now) dumps (start .args .call .now)) (start .args .node) (start .args .x) (start .args .y) _ (at-get-constant .get-constant .ensures)
 
 pub read-spec : {M : Type 1} → statement M
-read-spec = tie.close (tie.spec element-copy-out-get-constant get-constant-requires enum-known-address enum-told settle-requires same-length same-length-2 returns element-copy-out-find-in-memory find-in-memory-requires enum-known-found tally-requires settle-requires-2 enum-told-2 tally-requires-2 settle-requires-3 same-length-3 same-length-4 returns-2 same-length-5 same-length-6 returns-3)
+read-spec = tie.close (tie.spec reading-in-requires element-copy-out-get-constant get-constant-requires enum-known-address enum-told settle-requires same-length same-length-2 returns element-copy-out-find-in-memory find-in-memory-requires enum-known-found tally-requires settle-requires-2 enum-told-2 tally-requires-2 settle-requires-3 same-length-3 same-length-4 returns-2 same-length-5 same-length-6 returns-3)
