@@ -14,7 +14,10 @@ use Rattle.rules.specs.Lists.{allTrue, every}
 use Rattle.rules.specs.Table.{Node, Row, kindOf, kindCode, decode, fits, nodeAt, operands, operandsAs}
 use Rattle.rules.specs.Check.{knownKind, knownSort, unusedAs, mayServe, sortedAs, sorted, rule3, checkNode}
 use Rattle.rules.proofs.Base.{and-both}
-use Rattle.tables.specs.Judging.{rowAt}
+use Rattle.tables.specs.NodeAnswers.{rowAt}
+use Rattle.tables.specs.FormAnswers.{SameAt, OfPair, OfTriple}
+use Rattle.tables.specs.declared.several.Pair.{Pair}
+use Rattle.tables.specs.declared.several.Triple.{Triple}
 use Rattle.tables.proofs.ToldLaws.{told-early, told-late}
 use Rattle.tables.proofs.NodeLaws.{is-code}
 
@@ -111,13 +114,13 @@ TakesTwo code = Takes code (λ nd. nd .c ∷ []) (λ nd. nd .a ∷ nd .b ∷ [])
 abbrev pub TakesThree : ℕ → Type 0
 TakesThree code = Takes code (λ nd. []) (λ nd. nd .a ∷ nd .b ∷ nd .c ∷ [])
 
-pub read-takes : TakesTwo 2
+read-takes : TakesTwo 2
 read-takes = record { plain = refl; unused = λ nd. refl; operands = λ nd. refl }
 
-pub write-takes : TakesThree 3
+write-takes : TakesThree 3
 write-takes = record { plain = refl; unused = λ nd. refl; operands = λ nd. refl }
 
-pub word-takes : (code : ℕ) → (4 ≤ code) × (code < 12) → TakesTwo code
+word-takes : (code : ℕ) → (4 ≤ code) × (code < 12) → TakesTwo code
 word-takes =
     word-code TakesTwo (takes 4 refl (λ nd. refl) (λ nd. refl)) (takes 5 refl (λ nd. refl) (λ nd. refl))
     (takes 6 refl (λ nd. refl) (λ nd. refl)) (takes 7 refl (λ nd. refl) (λ nd. refl)) (takes 8 refl (λ nd. refl) (λ nd. refl))
@@ -127,7 +130,7 @@ word-takes =
         → ((nd : Node) → operandsAs (kindOf code) nd ≡ nd .a ∷ nd .b ∷ []) → TakesTwo code
     takes code p u o = record { plain = p; unused = u; operands = o }
 
-pub comparison-takes : (code : ℕ) → (code ≡ 12) ⊎ (code ≡ 15) → TakesTwo code
+comparison-takes : (code : ℕ) → (code ≡ 12) ⊎ (code ≡ 15) → TakesTwo code
 comparison-takes code = ⊎-elim (λ e. subst TakesTwo (sym e) ult) (λ e. subst TakesTwo (sym e) eq)
   where
     ult : TakesTwo 12
@@ -136,10 +139,10 @@ comparison-takes code = ⊎-elim (λ e. subst TakesTwo (sym e) ult) (λ e. subst
     eq : TakesTwo 15
     eq = record { plain = refl; unused = λ nd. refl; operands = λ nd. refl }
 
-pub ite-takes : TakesThree 14
+ite-takes : TakesThree 14
 ite-takes = record { plain = refl; unused = λ nd. refl; operands = λ nd. refl }
 
-pub logic-takes : (code : ℕ) → (code ≡ 16) ⊎ (code ≡ 17) → TakesTwo code
+logic-takes : (code : ℕ) → (code ≡ 16) ⊎ (code ≡ 17) → TakesTwo code
 logic-takes code = ⊎-elim (λ e. subst TakesTwo (sym e) and) (λ e. subst TakesTwo (sym e) or)
   where
     and : TakesTwo 16
@@ -148,8 +151,20 @@ logic-takes code = ⊎-elim (λ e. subst TakesTwo (sym e) and) (λ e. subst Take
     or : TakesTwo 17
     or = record { plain = refl; unused = λ nd. refl; operands = λ nd. refl }
 
-pub next-takes : TakesTwo 20
+next-takes : TakesTwo 20
 next-takes = record { plain = refl; unused = λ nd. refl; operands = λ nd. refl }
+
+-- each case of several.rt
+pub pair-takes : (pair : Pair) (code : ℕ) → OfPair pair code → TakesTwo code
+pair-takes Pair.Read code h = subst TakesTwo (sym h) read-takes
+pair-takes Pair.Word code h = word-takes code h
+pair-takes Pair.Comparison code h = comparison-takes code h
+pair-takes Pair.Logic code h = logic-takes code h
+pair-takes Pair.Next code h = subst TakesTwo (sym h) next-takes
+
+pub triple-takes : (triple : Triple) (code : ℕ) → OfTriple triple code → TakesThree code
+triple-takes Triple.Write code h = subst TakesThree (sym h) write-takes
+triple-takes Triple.Ite code h = subst TakesThree (sym h) ite-takes
 
 -- ---- rule 3, where the code names no kind and where there is at most one operand
 pub rule3-unknown : (names : ℕ) (r : Row) → knownKind (r .code) ≡ false → false ≡ rule3 names r
@@ -189,46 +204,46 @@ word-sorts =
 pub sorted-const : (t : List Node) (r : Row) → r .code ≡ 1 → (not (eqb (r .sort) 3) && fits (r .sort) (r .a)) ≡ allTrue (sorted t (decode r))
 sorted-const t r e = rw e (simp and-true)
 
-module _ (k : ℕ) (ws : List ℕ) (t : List Node) (r : Row) (same : (x : ℕ) → x < k → nodeAt t x ≡ decode (rowAt ws x)) (first : r .a < k) where
+module _ (ws : List ℕ) (t : List Node) (r : Row) (first : SameAt ws t (r .a)) where
   abbrev sort : ℕ → ℕ
   sort x = rowAt ws x .sort
 
   pub sorted-ext : r .code ≡ 13 → (eqb (r .sort) 2 && (eqb (sort (r .a)) (r .b) && not (eqb (sort (r .a)) 3))) ≡ allTrue (sorted t (decode r))
-  sorted-ext e = rw (e, same (r .a) first) (simp and-true)
+  sorted-ext e = rw (e, first) (simp and-true)
 
   pub sorted-not : r .code ≡ 18 → (not (eqb (r .sort) 3) && eqb (sort (r .a)) (r .sort)) ≡ allTrue (sorted t (decode r))
-  sorted-not e = rw (e, same (r .a) first) (simp and-true)
+  sorted-not e = rw (e, first) (simp and-true)
 
   pub sorted-bad : r .code ≡ 22 → (eqb (r .sort) 1 && eqb (sort (r .a)) 1) ≡ allTrue (sorted t (decode r))
-  sorted-bad e = rw (e, same (r .a) first) (simp and-true)
+  sorted-bad e = rw (e, first) (simp and-true)
 
   pub sorted-init : r .code ≡ 19 → eqb (r .b) 1 ≡ true → eqb (sort (r .a)) (r .sort) ≡ allTrue (sorted t (decode r))
-  sorted-init e f = rw (e, f, same (r .a) first) (simp and-true)
+  sorted-init e f = rw (e, f, first) (simp and-true)
 
-  module _ (second : r .b < k) where
+  module _ (second : SameAt ws t (r .b)) where
     pub sorted-read : r .code ≡ 2 → (eqb (r .sort) 2 && (eqb (sort (r .a)) 3 && eqb (sort (r .b)) 2)) ≡ allTrue (sorted t (decode r))
-    sorted-read e = rw (e, same (r .a) first, same (r .b) second) (simp and-true)
+    sorted-read e = rw (e, first, second) (simp and-true)
 
     pub sorted-word : (4 ≤ r .code) × (r .code < 12) → (eqb (r .sort) 2 && (eqb (sort (r .a)) 2 && eqb (sort (r .b)) 2)) ≡ allTrue (sorted t (decode r))
-    sorted-word e = rw (word-sorts (r .code) e (nodeAt t) (decode r), same (r .a) first, same (r .b) second) (simp and-true)
+    sorted-word e = rw (word-sorts (r .code) e (nodeAt t) (decode r), first, second) (simp and-true)
 
     pub sorted-comparison : (r .code ≡ 12) ⊎ (r .code ≡ 15)
         → (eqb (r .sort) 1 && (eqb (sort (r .a)) (sort (r .b)) && not (eqb (sort (r .a)) 3))) ≡ allTrue (sorted t (decode r))
-    sorted-comparison = ⊎-elim (λ e. rw (e, same (r .a) first, same (r .b) second) (simp and-true)) (λ e. rw (e, same (r .a) first, same (r .b) second) (simp and-true))
+    sorted-comparison = ⊎-elim (λ e. rw (e, first, second) (simp and-true)) (λ e. rw (e, first, second) (simp and-true))
 
     pub sorted-logic : (r .code ≡ 16) ⊎ (r .code ≡ 17)
         → (not (eqb (r .sort) 3) && (eqb (sort (r .a)) (r .sort) && eqb (sort (r .b)) (r .sort))) ≡ allTrue (sorted t (decode r))
-    sorted-logic = ⊎-elim (λ e. rw (e, same (r .a) first, same (r .b) second) (simp and-true)) (λ e. rw (e, same (r .a) first, same (r .b) second) (simp and-true))
+    sorted-logic = ⊎-elim (λ e. rw (e, first, second) (simp and-true)) (λ e. rw (e, first, second) (simp and-true))
 
     pub sorted-next : r .code ≡ 20
         → (eqb (rowAt ws (r .a) .code) 19 && (eqb (sort (r .a)) (r .sort) && eqb (sort (r .b)) (r .sort))) ≡ allTrue (sorted t (decode r))
-    sorted-next e = rw (e, same (r .a) first, same (r .b) second, is-code 19 refl refl (rowAt ws (r .a) .code)) (simp and-true)
+    sorted-next e = rw (e, first, second, is-code 19 refl refl (rowAt ws (r .a) .code)) (simp and-true)
 
-    module _ (third : r .c < k) where
+    module _ (third : SameAt ws t (r .c)) where
       pub sorted-write : r .code ≡ 3
           → (eqb (r .sort) 3 && (eqb (sort (r .a)) 3 && (eqb (sort (r .b)) 2 && eqb (sort (r .c)) 2))) ≡ allTrue (sorted t (decode r))
-      sorted-write e = rw (e, same (r .a) first, same (r .b) second, same (r .c) third) (simp and-true)
+      sorted-write e = rw (e, first, second, third) (simp and-true)
 
       pub sorted-ite : r .code ≡ 14
           → (eqb (sort (r .a)) 1 && (eqb (sort (r .b)) (r .sort) && eqb (sort (r .c)) (r .sort))) ≡ allTrue (sorted t (decode r))
-      sorted-ite e = rw (e, same (r .a) first, same (r .b) second, same (r .c) third) (simp and-true)
+      sorted-ite e = rw (e, first, second, third) (simp and-true)

@@ -10,14 +10,14 @@ use native.Mathlib.Numerals.{add-one}
 use lib.ListN.{length, getD, drop, List·getD-map, List·getD-eq-default, drop-of-length-le}
 use lib.Seq.{getD-drop, drop-cons}
 use Rattle.rules.specs.Refusal.{Refusal, firstOf}
-use Rattle.rules.specs.Table.{Row, Node, decode, unknown, nodeAt}
+use Rattle.rules.specs.Table.{Row, Node, rowWidth, decode, unknown, nodeAt}
 use Rattle.rules.specs.Check.{rule3, rule4, rule5, checkNode, checkNodes}
 use Rattle.rules.specs.Sections.{rowOf}
 use Rattle.rules.specs.Limits.{house}
 use Rattle.rules.proofs.Sections.{row-at, rows-length}
-use Rattle.tables.specs.NodeAnswers.{rowUnknown}
+use Rattle.tables.specs.NodeAnswers.{rowUnknown, rowAt, HasRow}
 use Rattle.tables.specs.SectionAnswers.{sectionsIn}
-use Rattle.tables.specs.Judging.{rowsIn, tableIn, rowAt, IsChecked, IsCut}
+use Rattle.tables.specs.Judging.{rowsIn, tableIn, IsChecked, IsCut}
 use Rattle.tables.specs.declared.sections.Sections.{Sections}
 
 -- ---- rows in cut words
@@ -25,14 +25,19 @@ pub row-words : (ws : List ℕ) (k : ℕ)
     → rowOf (drop k ws) ≡ record { code = getD ws k 0; sort = getD ws (k + 1) 0; a = getD ws (k + 2) 0; b = getD ws (k + 3) 0; c = getD ws (k + 4) 0; name = getD ws (k + 5) 0 }
 row-words ws k = let e : k + 0 ≡ k = omega arith in rw (getD-drop k ws 0 0, getD-drop k ws 1 0, getD-drop k ws 2 0, getD-drop k ws 3 0, getD-drop k ws 4 0, getD-drop k ws 5 0, e)
 
+pub row-is : (ws : List ℕ) (k : ℕ) → rowOf (drop (rowWidth * k + 1) ws) ≡ rowAt ws k
+row-is ws k =
+    let e : rowWidth * k + 1 ≡ 1 + rowWidth * k = omega arith in
+    rw (e, getD-drop (1 + rowWidth * k) ws 0 0, getD-drop (1 + rowWidth * k) ws 1 0, getD-drop (1 + rowWidth * k) ws 2 0, getD-drop (1 + rowWidth * k) ws 3 0, getD-drop (1 + rowWidth * k) ws 4 0, getD-drop (1 + rowWidth * k) ws 5 0)
+
 module _ (ws : List ℕ) (s : Sections) (h : IsCut ws s) where
   pub rows-count : length (rowsIn ws s) ≡ s .nodes .count
   rows-count = rows-length (s .nodes .count) _
 
-  pub row-in : (k : ℕ) → k < s .nodes .count → getD (rowsIn ws s) k rowUnknown ≡ rowOf (drop (6 * k + 1) ws)
-  row-in k l = row-at house ws (sectionsIn ws s) (h .whole) k rowUnknown (omega (arith, rows-count))
+  pub row-in : (k : ℕ) → k < s .nodes .count → getD (rowsIn ws s) k rowUnknown ≡ rowAt ws k
+  row-in k l = row-at house ws (sectionsIn ws s) (h .whole) k rowUnknown (omega (arith, rows-count)) ∙ row-is ws k
 
-  pub node-in : (k : ℕ) → k < s .nodes .count → nodeAt (tableIn ws s) k ≡ decode (rowOf (drop (6 * k + 1) ws))
+  pub node-in : (k : ℕ) → k < s .nodes .count → nodeAt (tableIn ws s) k ≡ decode (rowAt ws k)
   node-in k l = List·getD-map decode (rowsIn ws s) k rowUnknown ∙ ap decode (row-in k l)
 
   pub node-past : (k : ℕ) → s .nodes .count ≤ k → nodeAt (tableIn ws s) k ≡ unknown
@@ -46,7 +51,7 @@ module _ (ws : List ℕ) (s : Sections) (h : IsCut ws s) where
   node-checked names k l r e f =
       f (tableIn ws s) (λ x g. node-in x (omega arith)) ∙ ap (checkNode names (tableIn ws s) k) (e ∙ sym (row-in k l))
 
-  pub words-enough : (k : ℕ) → k < s .nodes .count → 6 * k + 7 ≤ length ws
+  pub words-enough : (k : ℕ) → k < s .nodes .count → HasRow ws k
   words-enough k l = omega (arith, h .inside .nodes .starts, h .inside .nodes .ends, h .inside .nodes .within)
 
 -- ---- one node: the first rule that fails

@@ -13,11 +13,12 @@ use lib.Seq.{getD-drop}
 use Rattle.rules.specs.Refusal.{Out, refused, done, _>>=_}
 use Rattle.rules.specs.Table.{Row, rowWidth}
 use Rattle.rules.specs.Limits.{house}
-use Rattle.rules.specs.Sections.{Part, cutSection, rowOf, rowsOf}
+use Rattle.rules.specs.Sections.{Part, cutSection, wordOf, rowOf, rowsOf}
 use Rattle.rules.specs.Names.{namesOf}
 use Rattle.rules.specs.Label.{at, named, nameOfRow, nameOfNode, orSubstitute, labelOf}
 use Rattle.rules.proofs.Sections.{nothing-at, over-at, short-at, whole-at, Parted, section-done, rows-length, row-of}
 use Rattle.rules.proofs.Label.{at-in, at-past}
+use Rattle.tables.specs.NodeAnswers.{HasRow}
 use Rattle.tables.specs.NameAnswers.{placeOf, nodesCut, nodesIn, nameWord, nameWordAmong, nameWordOf}
 use Rattle.tables.proofs.NameLaws.{part, place-by, place-none}
 
@@ -42,11 +43,11 @@ module _ (ws : List ℕ) where
 
 -- the name word of a node that section 1 holds is the sixth of its row
 name-of-row : (ws : List ℕ) (p : Part) (node : ℕ) → Parted (house .nodes) rowWidth ws p → node < p .count
-    → (rowWidth * node + 6 < length ws) × (nameWord (at (rowsOf (p .count) (p .content)) node) ≡ getD ws (rowWidth * node + 6) 0)
+    → HasRow ws node × (nameWord (at (rowsOf (p .count) (p .content)) node) ≡ wordOf ws node 5)
 name-of-row ws p node h l =
     let d : Row = rowOf [] in
     let c : List ℕ = p .content in
-    let s : suc (rowWidth * node + 5) ≡ rowWidth * node + 6 = omega arith in
+    let s : suc (rowWidth * node + 5) ≡ 1 + rowWidth * node + 5 = omega arith in
     let i : rowWidth * node + 5 < length c = omega (arith, h .size) in (
       omega (arith, ap length (h .words), length-append c (p .rest), h .size),
       ap nameWord (at-in (rowsOf (p .count) c) node d (omega (arith, rows-length (p .count) c)))
@@ -66,12 +67,12 @@ module _ (ws : List ℕ) (node : ℕ) where
       go (refused r) h = refl
       go (done p) h = ap nameWord (at-past (rowsOf (p .count) (p .content)) node (omega (arith, rows-length (p .count) (p .content))))
 
-  pub word-inside : node < nodesIn ws → (rowWidth * node + 6 < length ws) × (nameWordOf ws node ≡ getD ws (rowWidth * node + 6) 0)
+  pub word-inside : node < nodesIn ws → HasRow ws node × (nameWordOf ws node ≡ wordOf ws node 5)
   unfolding nodesCut nameWordAmong
   word-inside h = go (cutSection 1 (house .nodes) rowWidth ws) refl h
     where
       go : (o : Out Part) → cutSection 1 (house .nodes) rowWidth ws ≡ o → node < nodesCut o
-          → (rowWidth * node + 6 < length ws) × (nameWordAmong node o ≡ getD ws (rowWidth * node + 6) 0)
+          → HasRow ws node × (nameWordAmong node o ≡ wordOf ws node 5)
       go (refused r) e h = let o : ⊥ = omega arith in absurd o
       go (done p) e h = name-of-row ws p node (section-done 1 (house .nodes) rowWidth ws p e) h
 

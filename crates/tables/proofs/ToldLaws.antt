@@ -14,7 +14,7 @@ use Rattle.rules.specs.Lists.{allTrue, every}
 use Rattle.rules.specs.Table.{Node, Row, decode, nodeAt, operands}
 use Rattle.rules.specs.Check.{mayServe, sorted, rule3, rule4, rule5, checkNode}
 use Rattle.rules.proofs.Base.{and-both}
-use Rattle.tables.specs.Judging.{rowAt}
+use Rattle.tables.specs.NodeAnswers.{rowAt, HasRow, RowsBefore}
 use Rattle.tables.proofs.JudgeLaws.{fails-3, fails-4, fails-5, fails-none}
 
 -- ---- where rule 4 holds beside another test, the operands are below the node
@@ -46,23 +46,23 @@ three-low k x y z three q a n =
     (below-first k x (y ∷ z ∷ []) h, low .0, low .1)
 
 -- the words of a node below another
-room : (ws : List ℕ) (k x : ℕ) → 6 * k + 1 ≤ length ws → x < k → 6 * x + 7 ≤ length ws
+room : (ws : List ℕ) (k x : ℕ) → RowsBefore ws k → x < k → HasRow ws x
 room ws k x h l = omega arith
 
-pub one-room : (ws : List ℕ) (k x : ℕ) (three : Bool) {both : Bool} → 6 * k + 1 ≤ length ws → both ≡ (three && ltb x k) → not both ≡ false
-    → 6 * x + 7 ≤ length ws
+pub one-room : (ws : List ℕ) (k x : ℕ) (three : Bool) {both : Bool} → RowsBefore ws k → both ≡ (three && ltb x k) → not both ≡ false
+    → HasRow ws x
 one-room ws k x three h a n = room ws k x h (one-low k x three a n)
 
-pub two-room : (ws : List ℕ) (k x y : ℕ) (three : Bool) {four both : Bool} → 6 * k + 1 ≤ length ws
+pub two-room : (ws : List ℕ) (k x y : ℕ) (three : Bool) {four both : Bool} → RowsBefore ws k
     → four ≡ every (λ z. ltb z k) (x ∷ y ∷ []) → both ≡ (three && four) → not both ≡ false
-    → (6 * x + 7 ≤ length ws) × (6 * y + 7 ≤ length ws)
+    → HasRow ws x × HasRow ws y
 two-room ws k x y three h q a n =
     let low = two-low k x y three q a n in
     (room ws k x h (low .0), room ws k y h (low .1))
 
-pub three-room : (ws : List ℕ) (k x y z : ℕ) (three : Bool) {four both : Bool} → 6 * k + 1 ≤ length ws
+pub three-room : (ws : List ℕ) (k x y z : ℕ) (three : Bool) {four both : Bool} → RowsBefore ws k
     → four ≡ every (λ u. ltb u k) (x ∷ y ∷ z ∷ []) → both ≡ (three && four) → not both ≡ false
-    → (6 * x + 7 ≤ length ws) × (6 * y + 7 ≤ length ws) × (6 * z + 7 ≤ length ws)
+    → HasRow ws x × HasRow ws y × HasRow ws z
 three-room ws k x y z three h q a n =
     let low = three-low k x y z three q a n in
     (room ws k x h (low .0), room ws k y h (low .1), room ws k z h (low .2))

@@ -1,21 +1,22 @@
 -- What the answers of nodes.rt and lists.rt say in the rules' terms.
 --     rowsIn, tableIn   the rows and the nodes that cut words hold        judgedOf   a judgement
 -- Assumes nothing.
-use Prim.Native.Nat.{ℕ, _+_, _*_, _<_}
+use Prim.Native.Nat.{ℕ, _<_}
 use mathlib.Core.Path.{_≡_}
 use mathlib.Core.Bool.{true, false}
 use mathlib.Core.Option.{Option, none, some}
 use mathlib.Core.List.{List, map}
 use Rattle.rules.specs.Refusal.{Refusal, Out, refused, done, _>>=_}
 use Rattle.rules.specs.Model.{Model, modelOf}
-use lib.ListN.{length, drop}
+use lib.ListN.{length}
 use Rattle.rules.specs.Table.{Row, Node, decode, nodeAt}
 use Rattle.rules.specs.Check.{rule4, checkNode}
 use Rattle.rules.specs.Limits.{Limits, house}
 use Rattle.rules.specs.Sections as rules
-use Rattle.rules.specs.Sections.{rowOf, cut}
+use Rattle.rules.specs.Sections.{cut}
 use Rattle.rules.specs.Call.{Call, judged}
 use Rattle.tables.specs.Refusals.{refusalOf}
+use Rattle.tables.specs.NodeAnswers.{rowAt}
 use Rattle.tables.specs.SectionAnswers.{sectionsIn, Inside}
 use Rattle.tables.specs.declared.sections.Sections.{Sections}
 use Rattle.tables.specs.declared.nodes.Judged.{Judged}
@@ -26,10 +27,6 @@ rowsIn ws s = sectionsIn ws s .rows
 
 abbrev pub tableIn : List ℕ → Sections → List Node
 tableIn ws s = map decode (rowsIn ws s)
-
--- the row of a node in words that start with section 1
-abbrev pub rowAt : List ℕ → ℕ → Row
-rowAt ws k = rowOf (drop (6 * k + 1) ws)
 
 -- what rules 3, 4 and 5 say of a node n by its row, in every table whose nodes before n are those of the words
 abbrev pub IsChecked : List ℕ → ℕ → ℕ → Row → Option Refusal → Type 0

@@ -1,5 +1,6 @@
 pub mod Refusals
 pub mod SectionAnswers
 pub mod NodeAnswers
+pub mod FormAnswers
 pub mod Judging
 pub mod NameAnswers

@@ -1,18 +1,20 @@
-// What judging a node by its form shares: the first rule that is broken, and the code and the sort of an operand.
+// What judging a node by its form shares: the first rule that is broken, and what may be an operand.
 use crate::logic::all;
+use crate::node::NodeKind;
 use crate::nodes::Judged;
 use crate::refusal::Refusal;
+use crate::rows::code_at;
 use btor::node_type::NodeType;
 ghost use mathlib.Core.Path.{_≡_};
 ghost use mathlib.Core.Bool.{_&&_, not};
 ghost use mathlib.Core.List.{[], _∷_};
-ghost use Prim.Native.Nat.{_+_, _*_, _≤_};
 ghost use lib.Dec.{eqb};
-ghost use lib.ListN.{length};
+ghost use Rattle.btor.specs.Sorts.{memoryCode};
 ghost use Rattle.rules.specs.Refusal.{unless, firstOf};
 ghost use Rattle.rules.specs.Table.{decode};
 ghost use Rattle.rules.specs.Check.{mayServe};
-ghost use Rattle.tables.specs.Judging.{judgedOf, rowAt};
+ghost use Rattle.tables.specs.NodeAnswers.{rowAt, HasRow};
+ghost use Rattle.tables.specs.Judging.{judgedOf};
 
 // The first of rules 3, 4 and 5 that a node breaks.
 pub(crate) fn told(node: usize, three: bool, four: bool, five: bool) -> Judged
@@ -30,33 +32,18 @@ pub(crate) fn told(node: usize, three: bool, four: bool, five: bool) -> Judged
     Judged::Passed
 }
 
-// The code of a node's kind.
-pub(crate) fn code_at(words: &[u64], number: u64) -> u64
-    requires { ⌜ 6 * number + 7 ≤ length (now words) ⌝ }
-    ensures { λ r. ⌜ r ≡ rowAt (now (words .entry)) number .code ⌝ }
-{
-    words[6 * (number as usize) + 1]
-}
-
-pub(crate) fn sort_at(words: &[u64], number: u64) -> u64
-    requires { ⌜ 6 * number + 7 ≤ length (now words) ⌝ }
-    ensures { λ r. ⌜ r ≡ rowAt (now (words .entry)) number .sort ⌝ }
-{
-    words[6 * (number as usize) + 2]
-}
-
 // Whether a node may be an operand: neither a Next nor a Bad.
 pub(crate) fn serves(words: &[u64], number: u64) -> bool
-    requires { ⌜ 6 * number + 7 ≤ length (now words) ⌝ }
+    requires { ⌜ HasRow (now words) number ⌝ }
     ensures { λ r. ⌜ r ≡ mayServe (decode (rowAt (now (words .entry)) number)) ⌝ }
 {
     let code = code_at(words, number);
-    all(code != 20, code != 22)
+    all(code != NodeKind::NEXT, code != NodeKind::BAD)
 }
 
 // Whether two sorts are one, other than a memory's.
 pub(crate) fn same_numbers(left: u64, right: u64) -> bool
-    ensures { λ r. ⌜ r ≡ (eqb left right && not (eqb left 3)) ⌝ }
+    ensures { λ r. ⌜ r ≡ (eqb left right && not (eqb left memoryCode)) ⌝ }
 {
     all(left == right, left != NodeType::MEMORY)
 }

@@ -1,6 +1,8 @@
 // The label of a node: a part of the names bytes, or the caller's substitute. Sections 1 and 7 alone are looked at.
 use crate::names::NamePlace;
 use crate::names::name_place;
+use crate::node::Row;
+use crate::rows::row_word;
 ghost use mathlib.Core.Path.{_≡_};
 ghost use Rattle.rules.specs.Limits.{house};
 ghost use Rattle.rules.specs.Label.{labelOf};
@@ -19,7 +21,7 @@ fn nodes_in(words: &[u64]) -> u64
     if MOST_NODES < count {
         return 0;
     }
-    if (words.len() as u64) < 1 + 6 * count {
+    if (words.len() as u64) < 1 + Row::WIDTH as u64 * count {
         return 0;
     }
     count
@@ -32,8 +34,7 @@ fn name_word(words: &[u64], node: u64) -> u64
     if nodes_in(words) <= node {
         return 0;
     }
-    let at = (6 * node + 6) as usize;
-    words[at]
+    row_word(words, node as usize, Row::NAME)
 }
 
 // The name of a node, or the substitute: for a node past the table, with name 0 or past the last, or where section 1 or 7 is refused.

@@ -3,6 +3,7 @@ pub mod refusal; // refusal.rt: why a call is refused
 pub mod logic; // logic.rt: tests joined
 pub mod sections; // sections.rt: sections 1 to 6 of the words
 pub mod node; // node.rt: the kinds of nodes, and the six words of one
+pub mod rows; // rows.rt: the words of rows
 pub mod forms; // forms.rt: what judging a node by its form shares
 pub mod single; // single.rt: nodes without operands or with one
 pub mod several; // several.rt: nodes with two operands or three

@@ -1,5 +1,6 @@
 // Rules 6 and 7 over the three lists of cut words, entry by entry.
 use crate::logic::all;
+use crate::node::NodeKind;
 use crate::nodes::Judged;
 use crate::nodes::node_at;
 use crate::refusal::Refusal;
@@ -23,7 +24,7 @@ fn is_sequential(words: &[u64], sections: Sections, entry: u64) -> bool
     let next = node_at(words, sections, entry);
     let state = node_at(words, sections, next.a);
     let inside = entry < sections.nodes.count as u64;
-    all(inside, all(next.code == 20, state.b == 1))
+    all(inside, all(next.code == NodeKind::NEXT, state.b == 1))
 }
 
 // Whether an entry of section 3 or 4 is a Bad of the table.
@@ -33,7 +34,7 @@ fn is_bad(words: &[u64], sections: Sections, entry: u64) -> bool
 {
     let bad = node_at(words, sections, entry);
     let inside = entry < sections.nodes.count as u64;
-    all(inside, bad.code == 22)
+    all(inside, bad.code == NodeKind::BAD)
 }
 
 pub(crate) fn judge_bads(

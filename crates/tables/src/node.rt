@@ -38,33 +38,77 @@ pub enum CodedKind {
 }
 
 impl NodeKind {
+    pub const CONST: u64 = 1;
+
+    pub const READ: u64 = 2;
+
+    pub const WRITE: u64 = 3;
+
+    pub const ADD: u64 = 4;
+
+    pub const SUB: u64 = 5;
+
+    pub const MUL: u64 = 6;
+
+    pub const DIVU: u64 = 7;
+
+    pub const DIV: u64 = 8;
+
+    pub const REM: u64 = 9;
+
+    pub const SLL: u64 = 10;
+
+    pub const SRL: u64 = 11;
+
+    pub const ULT: u64 = 12;
+
+    pub const EXT: u64 = 13;
+
+    pub const ITE: u64 = 14;
+
+    pub const EQ: u64 = 15;
+
+    pub const AND: u64 = 16;
+
+    pub const OR: u64 = 17;
+
+    pub const NOT: u64 = 18;
+
+    pub const STATE: u64 = 19;
+
+    pub const NEXT: u64 = 20;
+
+    pub const INPUT: u64 = 21;
+
+    pub const BAD: u64 = 22;
+
     // The kind that a code names.
     pub fn from_code(code: u64) -> CodedKind
         ensures { λ r. ⌜ codedKindOf r ≡ kindIn code ⌝ }
     {
         match code {
-            1 => CodedKind::Known(NodeKind::Const),
-            2 => CodedKind::Known(NodeKind::Read),
-            3 => CodedKind::Known(NodeKind::Write),
-            4 => CodedKind::Known(NodeKind::Add),
-            5 => CodedKind::Known(NodeKind::Sub),
-            6 => CodedKind::Known(NodeKind::Mul),
-            7 => CodedKind::Known(NodeKind::Divu),
-            8 => CodedKind::Known(NodeKind::Div),
-            9 => CodedKind::Known(NodeKind::Rem),
-            10 => CodedKind::Known(NodeKind::Sll),
-            11 => CodedKind::Known(NodeKind::Srl),
-            12 => CodedKind::Known(NodeKind::Ult),
-            13 => CodedKind::Known(NodeKind::Ext),
-            14 => CodedKind::Known(NodeKind::Ite),
-            15 => CodedKind::Known(NodeKind::Eq),
-            16 => CodedKind::Known(NodeKind::And),
-            17 => CodedKind::Known(NodeKind::Or),
-            18 => CodedKind::Known(NodeKind::Not),
-            19 => CodedKind::Known(NodeKind::State),
-            20 => CodedKind::Known(NodeKind::Next),
-            21 => CodedKind::Known(NodeKind::Input),
-            22 => CodedKind::Known(NodeKind::Bad),
+            NodeKind::CONST => CodedKind::Known(NodeKind::Const),
+            NodeKind::READ => CodedKind::Known(NodeKind::Read),
+            NodeKind::WRITE => CodedKind::Known(NodeKind::Write),
+            NodeKind::ADD => CodedKind::Known(NodeKind::Add),
+            NodeKind::SUB => CodedKind::Known(NodeKind::Sub),
+            NodeKind::MUL => CodedKind::Known(NodeKind::Mul),
+            NodeKind::DIVU => CodedKind::Known(NodeKind::Divu),
+            NodeKind::DIV => CodedKind::Known(NodeKind::Div),
+            NodeKind::REM => CodedKind::Known(NodeKind::Rem),
+            NodeKind::SLL => CodedKind::Known(NodeKind::Sll),
+            NodeKind::SRL => CodedKind::Known(NodeKind::Srl),
+            NodeKind::ULT => CodedKind::Known(NodeKind::Ult),
+            NodeKind::EXT => CodedKind::Known(NodeKind::Ext),
+            NodeKind::ITE => CodedKind::Known(NodeKind::Ite),
+            NodeKind::EQ => CodedKind::Known(NodeKind::Eq),
+            NodeKind::AND => CodedKind::Known(NodeKind::And),
+            NodeKind::OR => CodedKind::Known(NodeKind::Or),
+            NodeKind::NOT => CodedKind::Known(NodeKind::Not),
+            NodeKind::STATE => CodedKind::Known(NodeKind::State),
+            NodeKind::NEXT => CodedKind::Known(NodeKind::Next),
+            NodeKind::INPUT => CodedKind::Known(NodeKind::Input),
+            NodeKind::BAD => CodedKind::Known(NodeKind::Bad),
             _ => CodedKind::Unknown,
         }
     }
@@ -78,6 +122,24 @@ pub struct Row {
     pub b: u64,
     pub c: u64,
     pub name: u64,
+}
+
+impl Row {
+    // How many words a row has.
+    pub const WIDTH: usize = 6;
+
+    // The places of its words.
+    pub const CODE: usize = 0;
+
+    pub const SORT: usize = 1;
+
+    pub const A: usize = 2;
+
+    pub const B: usize = 3;
+
+    pub const C: usize = 4;
+
+    pub const NAME: usize = 5;
 }
 
 // Whether a word is the code of a sort.

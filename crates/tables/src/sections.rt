@@ -1,9 +1,11 @@
 // Sections 1 to 6 of the words of a call, each after its count.
+use crate::node::Row;
 use crate::refusal::Refusal;
 ghost use mathlib.Core.Path.{_≡_};
 ghost use Prim.Native.Nat.{_≤_};
 ghost use lib.ListN.{drop};
 ghost use Rattle.rules.specs.Limits.{house};
+ghost use Rattle.rules.specs.Table.{rowWidth};
 ghost use Rattle.rules.specs.Sections.{cutSection, cut};
 ghost use Rattle.tables.specs.SectionAnswers.{foundOf, cutOf, Lies, Inside};
 ghost use Rattle.tables.specs.declared.sections.Found.{Found};
@@ -18,9 +20,6 @@ const ENTRIES: u64 = 1024;
 const INPUTS: u64 = 4096;
 
 const REPLIES: u64 = 16384;
-
-// The words of a node.
-const ROW: usize = 6;
 
 // A section: how many it counts, and where its words start and end.
 pub struct Part {
@@ -50,7 +49,7 @@ pub enum Found {
 
 // The section whose count stands at a place, with `width` words for each that is counted.
 fn section_at(words: &[u64], at: usize, section: u64, limit: u64, width: usize) -> Found
-    requires { ⌜ (limit ≤ 16384) × (width ≤ 6) ⌝ }
+    requires { ⌜ (limit ≤ 16384) × (width ≤ rowWidth) ⌝ }
     ensures { λ r. ⌜ foundOf (now (words .entry)) width r ≡ cutSection section limit width (drop at (now (words .entry))) ⌝ }
     ensures { λ r. ⌜ ((p : Part) → r ≡ Found.Section p → Lies (now (words .entry)) at width p) ⌝ }
 {
@@ -78,7 +77,7 @@ pub fn cut_sections(words: &[u64]) -> Cut
     ensures { λ r. ⌜ cutOf (now (words .entry)) r ≡ cut house (now (words .entry)) ⌝ }
     ensures { λ r. ⌜ ((s : Sections) → r ≡ Cut.Whole s → Inside (now (words .entry)) s) ⌝ }
 {
-    let nodes = match section_at(words, 0, 1, NODES, ROW) {
+    let nodes = match section_at(words, 0, 1, NODES, Row::WIDTH) {
         Found::Section(part) => part,
         Found::Refused(why) => return Cut::Refused(why),
     };

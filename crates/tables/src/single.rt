@@ -2,25 +2,24 @@
 // The operand is read only where it is below the node, which rule 4 asks.
 use crate::forms::same_numbers;
 use crate::forms::serves;
-use crate::forms::sort_at;
 use crate::forms::told;
 use crate::logic::all;
 use crate::node::Row;
 use crate::node::fits_sort;
 use crate::node::known_sort;
 use crate::nodes::Judged;
+use crate::rows::sort_at;
 use btor::node_type::NodeType;
 ghost use mathlib.Core.Path.{_≡_};
 ghost use mathlib.Core.List.{List};
-ghost use Prim.Native.Nat.{ℕ, _+_, _*_, _≤_};
-ghost use lib.ListN.{length};
-ghost use Rattle.rules.specs.Table.{Node};
+ghost use Prim.Native.Nat.{ℕ};
+ghost use Rattle.rules.specs.Table.{Node, Const, Ext, Not, State, Input, Bad, kindCode};
 ghost use Rattle.rules.specs.Check.{checkNode};
-ghost use Rattle.tables.specs.NodeAnswers.{rowIs};
+ghost use Rattle.tables.specs.NodeAnswers.{rowIs, RowsBefore};
 ghost use Rattle.tables.specs.Judging.{judgedOf, IsChecked};
 
 pub(crate) fn judge_const(row: Row, node: usize) -> Judged
-    requires { ⌜ row .code ≡ 1 ⌝ }
+    requires { ⌜ row .code ≡ kindCode Const ⌝ }
     ensures { λ r. ⌜ ((names : ℕ) (t : List Node) → judgedOf r ≡ checkNode names t node (rowIs row)) ⌝ }
 {
     let unused = all(row.b == 0, row.c == 0);
@@ -31,7 +30,7 @@ pub(crate) fn judge_const(row: Row, node: usize) -> Judged
 
 // An Input has a name.
 pub(crate) fn judge_input(row: Row, names: u64, node: usize) -> Judged
-    requires { ⌜ row .code ≡ 21 ⌝ }
+    requires { ⌜ row .code ≡ kindCode Input ⌝ }
     ensures { λ r. ⌜ ((t : List Node) → judgedOf r ≡ checkNode names t node (rowIs row)) ⌝ }
 {
     let unused = all(row.a == 0, all(row.b == 0, row.c == 0));
@@ -46,8 +45,8 @@ pub(crate) fn judge_input(row: Row, names: u64, node: usize) -> Judged
 
 // A State has an operand where b is 1, and may have a name.
 pub(crate) fn judge_state(words: &[u64], row: Row, names: u64, node: usize) -> Judged
-    requires { ⌜ 6 * node + 1 ≤ length (now words) ⌝ }
-    requires { ⌜ row .code ≡ 19 ⌝ }
+    requires { ⌜ RowsBefore (now words) node ⌝ }
+    requires { ⌜ row .code ≡ kindCode State ⌝ }
     ensures { λ r. ⌜ IsChecked (now (words .entry)) names node (rowIs row) (judgedOf r) ⌝ }
 {
     let named = row.name <= names;
@@ -67,8 +66,8 @@ pub(crate) fn judge_state(words: &[u64], row: Row, names: u64, node: usize) -> J
 
 // The sort that an Ext widens stands in b.
 pub(crate) fn judge_ext(words: &[u64], row: Row, node: usize) -> Judged
-    requires { ⌜ 6 * node + 1 ≤ length (now words) ⌝ }
-    requires { ⌜ row .code ≡ 13 ⌝ }
+    requires { ⌜ RowsBefore (now words) node ⌝ }
+    requires { ⌜ row .code ≡ kindCode Ext ⌝ }
     ensures { λ r. ⌜ ((names : ℕ) → IsChecked (now (words .entry)) names node (rowIs row) (judgedOf r)) ⌝ }
 {
     let unused = all(row.c == 0, row.name == 0);
@@ -83,8 +82,8 @@ pub(crate) fn judge_ext(words: &[u64], row: Row, node: usize) -> Judged
 }
 
 pub(crate) fn judge_not(words: &[u64], row: Row, node: usize) -> Judged
-    requires { ⌜ 6 * node + 1 ≤ length (now words) ⌝ }
-    requires { ⌜ row .code ≡ 18 ⌝ }
+    requires { ⌜ RowsBefore (now words) node ⌝ }
+    requires { ⌜ row .code ≡ kindCode Not ⌝ }
     ensures { λ r. ⌜ ((names : ℕ) → IsChecked (now (words .entry)) names node (rowIs row) (judgedOf r)) ⌝ }
 {
     let unused = all(row.b == 0, row.c == 0);
@@ -100,8 +99,8 @@ pub(crate) fn judge_not(words: &[u64], row: Row, node: usize) -> Judged
 
 // A Bad may have a name.
 pub(crate) fn judge_bad(words: &[u64], row: Row, names: u64, node: usize) -> Judged
-    requires { ⌜ 6 * node + 1 ≤ length (now words) ⌝ }
-    requires { ⌜ row .code ≡ 22 ⌝ }
+    requires { ⌜ RowsBefore (now words) node ⌝ }
+    requires { ⌜ row .code ≡ kindCode Bad ⌝ }
     ensures { λ r. ⌜ IsChecked (now (words .entry)) names node (rowIs row) (judgedOf r) ⌝ }
 {
     let unused = all(row.b == 0, row.c == 0);

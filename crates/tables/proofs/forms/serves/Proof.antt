@@ -5,7 +5,7 @@ use mathlib.Core.Path.{refl, sym, ap, ap₂, _∙_}
 use mathlib.Core.Bool.{Bool, not, _||_, _&&_}
 use Prim.Native.Nat.{ℕ}
 use lib.Dec.{eqb}
-use Rattle.tables.specs.Judging.{rowAt}
+use Rattle.tables.specs.NodeAnswers.{rowAt}
 use Rattle.tables.proofs.NodeLaws.{is-code}
 use Rattle.tables.proofs.FormLaws.{not-either}
 use Rattle.tables.proofs.forms.serves.Statement.{statement}

@@ -16,20 +16,20 @@ row-at-requires c κs = search needs
 judge-const-requires : tie.Need-judge-const-requires
 judge-const-requires c κs = search needs
 
-judge-read-requires : tie.Need-judge-read-requires
-judge-read-requires c κs = search needs
+judge-two-requires : tie.Need-judge-two-requires
+judge-two-requires c κs = search needs
 
-judge-write-requires : tie.Need-judge-write-requires
-judge-write-requires c κs = search needs
+judge-three-requires : tie.Need-judge-three-requires
+judge-three-requires c κs = search needs
 
-judge-comparison-requires : tie.Need-judge-comparison-requires
-judge-comparison-requires c κs = search needs
+judge-two-requires-2 : tie.Need-judge-two-requires-2
+judge-two-requires-2 c κs = search needs
 
 judge-ext-requires : tie.Need-judge-ext-requires
 judge-ext-requires c κs = search needs
 
-judge-ite-requires : tie.Need-judge-ite-requires
-judge-ite-requires c κs = search needs
+judge-three-requires-2 : tie.Need-judge-three-requires-2
+judge-three-requires-2 c κs = search needs
 
 judge-not-requires : tie.Need-judge-not-requires
 judge-not-requires c κs = search needs
@@ -37,8 +37,8 @@ judge-not-requires c κs = search needs
 judge-state-requires : tie.Need-judge-state-requires
 judge-state-requires c κs = search needs
 
-judge-next-requires : tie.Need-judge-next-requires
-judge-next-requires c κs = search needs
+judge-two-requires-3 : tie.Need-judge-two-requires-3
+judge-two-requires-3 c κs = search needs
 
 judge-input-requires : tie.Need-judge-input-requires
 judge-input-requires c κs = search needs
@@ -46,14 +46,14 @@ judge-input-requires c κs = search needs
 judge-bad-requires : tie.Need-judge-bad-requires
 judge-bad-requires c κs = search needs
 
-judge-word-requires : tie.Need-judge-word-requires
-judge-word-requires c κs =
+judge-two-requires-4 : tie.Need-judge-two-requires-4
+judge-two-requires-4 c κs =
     let at-match = c .before .before in
     let at-row-at = at-match .before in
     (search needs, (word-low (at-row-at .row-at .result .code) (c .before .if1 .left) (at-match .match .rest .0 .0 .0 .0 .0 .0 .0 .0 .0 .0 .1) (at-match .match .rest .0 .0 .0 .0 .0 .0 .0 .0 .0 .1) (at-match .match .rest .0 .0 .0 .0 .0 .0 .0 .0 .1), c .if2 .taken))
 
-judge-logic-requires : tie.Need-judge-logic-requires
-judge-logic-requires c κs =
+judge-two-requires-5 : tie.Need-judge-two-requires-5
+judge-two-requires-5 c κs =
     let at-match = c .before .before .before in
     let at-row-at = at-match .before in
     (search needs, logic-code (at-row-at .row-at .result .code) (c .before .if2 .left) (c .if3 .taken) (at-match .match .rest .0 .0 .0 .0 .0 .0 .0 .1) (at-match .match .rest .0 .0 .0 .0 .0 .0 .1) (at-match .match .rest .0 .0 .0 .0 .0 .1))
@@ -68,19 +68,19 @@ returns-2 : tie.Need-returns-2
 returns-2 c =
     let at-row-at = c .before .before in
     let start = at-row-at .before .before in
-    node-checked _ _ (start .pre .0) (start .args .names) _ (start .pre .1) _ (at-row-at .row-at .ensures) (c .judge-read .ensures _)
+    node-checked _ _ (start .pre .0) (start .args .names) _ (start .pre .1) _ (at-row-at .row-at .ensures) (c .judge-two .ensures _)
 
 returns-3 : tie.Need-returns-3
 returns-3 c =
     let at-row-at = c .before .before in
     let start = at-row-at .before .before in
-    node-checked _ _ (start .pre .0) (start .args .names) _ (start .pre .1) _ (at-row-at .row-at .ensures) (c .judge-write .ensures _)
+    node-checked _ _ (start .pre .0) (start .args .names) _ (start .pre .1) _ (at-row-at .row-at .ensures) (c .judge-three .ensures _)
 
 returns-4 : tie.Need-returns-4
 returns-4 c =
     let at-row-at = c .before .before in
     let start = at-row-at .before .before in
-    node-checked _ _ (start .pre .0) (start .args .names) _ (start .pre .1) _ (at-row-at .row-at .ensures) (c .judge-comparison .ensures _)
+    node-checked _ _ (start .pre .0) (start .args .names) _ (start .pre .1) _ (at-row-at .row-at .ensures) (c .judge-two2 .ensures _)
 
 returns-5 : tie.Need-returns-5
 returns-5 c =
@@ -92,7 +92,7 @@ returns-6 : tie.Need-returns-6
 returns-6 c =
     let at-row-at = c .before .before in
     let start = at-row-at .before .before in
-    node-checked _ _ (start .pre .0) (start .args .names) _ (start .pre .1) _ (at-row-at .row-at .ensures) (c .judge-ite .ensures _)
+    node-checked _ _ (start .pre .0) (start .args .names) _ (start .pre .1) _ (at-row-at .row-at .ensures) (c .judge-three2 .ensures _)
 
 returns-7 : tie.Need-returns-7
 returns-7 c =
@@ -110,7 +110,7 @@ returns-9 : tie.Need-returns-9
 returns-9 c =
     let at-row-at = c .before .before in
     let start = at-row-at .before .before in
-    node-checked _ _ (start .pre .0) (start .args .names) _ (start .pre .1) _ (at-row-at .row-at .ensures) (c .judge-next .ensures _)
+    node-checked _ _ (start .pre .0) (start .args .names) _ (start .pre .1) _ (at-row-at .row-at .ensures) (c .judge-two3 .ensures _)
 
 returns-10 : tie.Need-returns-10
 returns-10 c =
@@ -128,13 +128,13 @@ returns-12 : tie.Need-returns-12
 returns-12 c =
     let at-row-at = c .before .before .before .before in
     let start = at-row-at .before .before in
-    node-checked _ _ (start .pre .0) (start .args .names) _ (start .pre .1) _ (at-row-at .row-at .ensures) (c .judge-word .ensures _)
+    node-checked _ _ (start .pre .0) (start .args .names) _ (start .pre .1) _ (at-row-at .row-at .ensures) (c .judge-two4 .ensures _)
 
 returns-13 : tie.Need-returns-13
 returns-13 c =
     let at-row-at = c .before .before .before .before .before in
     let start = at-row-at .before .before in
-    node-checked _ _ (start .pre .0) (start .args .names) _ (start .pre .1) _ (at-row-at .row-at .ensures) (c .judge-logic .ensures _)
+    node-checked _ _ (start .pre .0) (start .args .names) _ (start .pre .1) _ (at-row-at .row-at .ensures) (c .judge-two5 .ensures _)
 
 returns-14 : tie.Need-returns-14
 returns-14 c =
@@ -161,18 +161,18 @@ judge-node-spec =
     (tie.spec
     row-at-requires
     judge-const-requires
-    judge-read-requires
-    judge-write-requires
-    judge-comparison-requires
+    judge-two-requires
+    judge-three-requires
+    judge-two-requires-2
     judge-ext-requires
-    judge-ite-requires
+    judge-three-requires-2
     judge-not-requires
     judge-state-requires
-    judge-next-requires
+    judge-two-requires-3
     judge-input-requires
     judge-bad-requires
-    judge-word-requires
-    judge-logic-requires
+    judge-two-requires-4
+    judge-two-requires-5
     returns
     returns-2
     returns-3

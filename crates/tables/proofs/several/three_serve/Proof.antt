@@ -6,7 +6,7 @@ use mathlib.Core.Bool.{_&&_}
 use Rattle.tables.proofs.ToldLaws.{every-third}
 use Rattle.rules.specs.Table.{decode}
 use Rattle.rules.specs.Check.{mayServe}
-use Rattle.tables.specs.Judging.{rowAt}
+use Rattle.tables.specs.NodeAnswers.{rowAt}
 use Rattle.tables.proofs.several.three_serve.Statement.{statement}
 use Rattle.tables.proofs.several.three_serve.Tie as tie
 

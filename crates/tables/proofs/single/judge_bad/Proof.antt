@@ -102,7 +102,7 @@ returns-2 c =
     in
     let fit : at-all5 .all5 .result ≡ allTrue (sorted t (decode (rowIs row))) =
     rw (at-all5 .all5 .ensures, at-sort-at .sort-at .ensures)
-    (sorted-bad k ws t (rowIs row) same low (start .pre .1))
+    (sorted-bad ws t (rowIs row) (same _ low) (start .pre .1))
     in
     c .told2 .ensures
     ∙ told-late names t k (rowIs row) (row .a ∷ []) one three (sym (and-true (ltb (row .a) k))) (at-all4 .all4 .ensures)

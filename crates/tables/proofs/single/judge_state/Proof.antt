@@ -135,7 +135,7 @@ returns-3 c =
     in
     let fit : eqb (at-sort-at .sort-at .result) (row .sort) ≡ allTrue (sorted t (decode (rowIs row))) =
     rw (at-sort-at .sort-at .ensures)
-    (sorted-init k ws t (rowIs row) same low (start .pre .1) init)
+    (sorted-init ws t (rowIs row) (same _ low) (start .pre .1) init)
     in
     c .told3 .ensures
     ∙ told-late names t k (rowIs row) (row .a ∷ []) one three (sym (and-true (ltb (row .a) k))) (at-all7 .all7 .ensures)
