@@ -1,12 +1,13 @@
 -- What a table and its lists must be: refusals 3 to 7 (docs/FORMAT.md, "Nodes", "Names", "Lists, inputs and replies", "Refusals").
 --     rule3, rule4, rule5             words and names, operands before, sorts
+--     checkForm, checkNode            3 and 4 of a row by itself, and all three of a node in a table
 --     checkSequentials, checkBads     the lists, each entry 6 then 7
 --     check                           all of them in order: nodes rising, then lists in order
 -- Assumes nothing.
 use Prim.Native.Nat.{ℕ, suc}
 use mathlib.Core.Bool.{Bool, true, false, cond, _&&_, _||_, not}
 use mathlib.Core.Option.{Option, none}
-use mathlib.Core.List.{List, [], _∷_}
+use mathlib.Core.List.{List, [], _∷_, _++_}
 use lib.ListN.{length}
 use lib.Dec.{ltb, leb, eqb}
 use Rattle.btor.specs.Sorts.{sortOf, bitCode, wordCode, memoryCode}
@@ -101,9 +102,16 @@ abbrev pub rule5 : List Node → Node → Bool
 rule5 t nd = rule5At (nodeAt t) nd
 
 -- ---- "the nodes, rising, for each 3, then 4, then 5": they name the node (section 1)
+-- 3, then 4, of a row by itself: each operand is below the bound
+abbrev pub formTests : ℕ → ℕ → ℕ → Row → List (Option Refusal)
+formTests names bound k r = unless (rule3 names r) 3 1 k ∷ unless (rule4 bound (decode r)) 4 1 k ∷ []
+
+abbrev pub checkForm : ℕ → ℕ → ℕ → Row → Option Refusal
+checkForm names bound k r = firstOf (formTests names bound k r)
+
+-- and 5, where the bound is the node
 abbrev pub checkNode : ℕ → List Node → ℕ → Row → Option Refusal
-checkNode names t k r =
-    firstOf (unless (rule3 names r) 3 1 k ∷ unless (rule4 k (decode r)) 4 1 k ∷ unless (rule5 t (decode r)) 5 1 k ∷ [])
+checkNode names t k r = firstOf (formTests names k k r ++ (unless (rule5 t (decode r)) 5 1 k ∷ []))
 
 unfoldable pub checkNodes : ℕ → List Node → ℕ → List Row → Option Refusal
 checkNodes names t k [] = none

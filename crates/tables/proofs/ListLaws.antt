@@ -1,6 +1,6 @@
 -- Laws for the proofs of lists.rt: entries by their rows, lists at their places in cut words, and judging one entry after the other.
 -- Assumes nothing.
-use Prim.Native.Nat.{ℕ, zero, suc, _+_, _*_, _<_, _≤_, min}
+use Prim.Native.Nat.{ℕ, zero, suc, _+_, _-_, _*_, _<_, _≤_, min}
 use mathlib.Core.Path.{_≡_, refl, sym, ap, ap₂, _∙_, subst}
 use mathlib.Core.Bool.{Bool, true, false, _&&_, _||_, not, and-true, false≢true}
 use mathlib.Core.Option.{Option, none, some}
@@ -8,37 +8,30 @@ use mathlib.Core.List.{List, [], _∷_, map}
 use native.Mathlib.Omega.{arith}
 use native.Mathlib.Numerals.{add-one}
 use lib.Dec.{ltb, eqb}
-use lib.ListN.{length, getD, set, take, drop, replicate, length-take, length-drop, drop-of-length-le, List·getD-map}
+use lib.ListN.{length, length-set, getD, set, take, drop, replicate, length-take, length-drop, drop-of-length-le, List·getD-map}
 use lib.Seq.{getD-drop, getD-take, drop-cons, getD-set-same, getD-set-other}
 use borrow.Author.Tests.{eqb-true, eqb-false, eq-eqb, ne-eqb, ltb-true}
-use Rattle.btor.specs.Operators.{Op}
 use Rattle.rules.specs.Refusal.{Refusal, unless, firstOf}
 use Rattle.rules.specs.Lists.{allTrue, every, member}
 use Rattle.rules.specs.Table.{Next, Row, Node, Kind, decode, is, kindOf, kindCode, nodeAt, operands, operandsAs}
 use Rattle.rules.specs.Check.{rule4, sequentialEntry, badEntry, checkSequentials, checkBads, checkNode, checkNodes}
-use Rattle.rules.specs.Limits.{house}
-use Rattle.rules.proofs.Base.{and-both}
-use Rattle.rules.proofs.Sections.{encode-cut}
 use Rattle.tables.specs.NodeAnswers.{rowIs, rowUnknown}
 use Rattle.tables.specs.SectionAnswers.{sectionsIn, wordsIn, Lies}
-use Rattle.tables.specs.Judging.{rowsIn, tableIn, IsCut, OperandsBefore}
+use Rattle.tables.specs.Judging.{rowsIn, tableIn, statesBefore, Marks}
 use Rattle.tables.specs.declared.node.Row as node
 use Rattle.tables.specs.declared.sections.Part.{Part}
 use Rattle.tables.specs.declared.sections.Sections.{Sections}
 use Rattle.tables.proofs.NodeLaws.{is-code}
-use Rattle.tables.proofs.JudgeLaws.{alone, rows-count, node-passes, each-passes}
+use Rattle.tables.proofs.JudgeLaws.{alone, rows-count}
 
 map-length : {A B : Type 0} (f : A → B) (xs : List A) → length (map f xs) ≡ length xs
 map-length f [] = refl
 map-length f (x ∷ xs) = ap suc (map-length f xs)
 
 -- ---- entries by their rows
-module _ (ws : List ℕ) (s : Sections) (h : IsCut ws s) where
+module _ (ws : List ℕ) (s : Sections) where
   pub table-count : length (tableIn ws s) ≡ s .nodes .count
-  table-count = map-length decode (rowsIn ws s) ∙ rows-count ws s h
-
-  pub nodes-few : s .nodes .count ≤ 4096
-  nodes-few = omega (arith, encode-cut house ws (sectionsIn ws s) (h .whole) .1 .nodes, rows-count ws s h)
+  table-count = map-length decode (rowsIn ws s) ∙ rows-count ws s
 
   pub bad-entry : (e : ℕ) (r : node.Row) → decode (rowIs r) ≡ nodeAt (tableIn ws s) e
       → (ltb e (s .nodes .count) && eqb (r .code) 22) ≡ allTrue (badEntry (tableIn ws s) e)
@@ -88,15 +81,6 @@ module _ (t : List Node) (section : ℕ) (bs : List ℕ) where
   bads-end k h = ap (checkBads t section k) (drop-of-length-le bs h)
 
 -- ---- sequentials, entry after entry
--- the states of the first k entries, the last first
-unfoldable pub seenBy : List Node → List ℕ → ℕ → List ℕ
-seenBy t ss zero = []
-seenBy t ss (suc k) = nodeAt t (getD ss k 0) .a ∷ seenBy t ss k
-
--- marks tell which states were seen
-abbrev pub Marks : List Node → List ℕ → ℕ → List ℕ → Type 0
-Marks t ss k marks = (x : ℕ) → eqb (getD marks x 0) 1 ≡ member x (seenBy t ss k)
-
 module _ (t : List Node) (ss : List ℕ) where
   abbrev entryAt : ℕ → Bool
   entryAt k = allTrue (sequentialEntry t (getD ss k 0))
@@ -105,23 +89,23 @@ module _ (t : List Node) (ss : List ℕ) where
   stateAt k = nodeAt t (getD ss k 0) .a
 
   abbrev from : ℕ → Option Refusal
-  from k = checkSequentials t k (seenBy t ss k) (drop k ss)
+  from k = checkSequentials t k (statesBefore t ss k) (drop k ss)
 
   step : (k : ℕ) → k < length ss
-      → from k ≡ firstOf (unless (entryAt k) 6 2 k ∷ unless (not (member (stateAt k) (seenBy t ss k))) 7 2 k ∷ from (k + 1) ∷ [])
-  unfolding checkSequentials seenBy
+      → from k ≡ firstOf (unless (entryAt k) 6 2 k ∷ unless (not (member (stateAt k) (statesBefore t ss k))) 7 2 k ∷ from (k + 1) ∷ [])
+  unfolding checkSequentials statesBefore
   step k h =
-      ap (checkSequentials t k (seenBy t ss k)) (drop-cons ss k 0 h)
-      ∙ ap (λ (m : ℕ). firstOf (unless (entryAt k) 6 2 k ∷ unless (not (member (stateAt k) (seenBy t ss k))) 7 2 k ∷ from m ∷ [])) (sym (add-one k))
+      ap (checkSequentials t k (statesBefore t ss k)) (drop-cons ss k 0 h)
+      ∙ ap (λ (m : ℕ). firstOf (unless (entryAt k) 6 2 k ∷ unless (not (member (stateAt k) (statesBefore t ss k))) 7 2 k ∷ from m ∷ [])) (sym (add-one k))
 
   pub sequentials-stop-6 : (k : ℕ) → k < length ss → entryAt k ≡ false → some (record { reason = 6; section = 2; position = k }) ≡ from k
-  sequentials-stop-6 k h e = sym (step k h ∙ ap (λ (b : Bool). firstOf (unless b 6 2 k ∷ unless (not (member (stateAt k) (seenBy t ss k))) 7 2 k ∷ from (k + 1) ∷ [])) e)
+  sequentials-stop-6 k h e = sym (step k h ∙ ap (λ (b : Bool). firstOf (unless b 6 2 k ∷ unless (not (member (stateAt k) (statesBefore t ss k))) 7 2 k ∷ from (k + 1) ∷ [])) e)
 
-  pub sequentials-stop-7 : (k : ℕ) → k < length ss → entryAt k ≡ true → member (stateAt k) (seenBy t ss k) ≡ true
+  pub sequentials-stop-7 : (k : ℕ) → k < length ss → entryAt k ≡ true → member (stateAt k) (statesBefore t ss k) ≡ true
       → some (record { reason = 7; section = 2; position = k }) ≡ from k
   sequentials-stop-7 k h e f = sym (step k h ∙ ap₂ (λ (b c : Bool). firstOf (unless b 6 2 k ∷ unless (not c) 7 2 k ∷ from (k + 1) ∷ [])) e f)
 
-  pub sequentials-pass : (k : ℕ) → k < length ss → entryAt k ≡ true → member (stateAt k) (seenBy t ss k) ≡ false → from (k + 1) ≡ from k
+  pub sequentials-pass : (k : ℕ) → k < length ss → entryAt k ≡ true → member (stateAt k) (statesBefore t ss k) ≡ false → from (k + 1) ≡ from k
   sequentials-pass k h e f = sym (step k h ∙ ap₂ (λ (b c : Bool). firstOf (unless b 6 2 k ∷ unless (not c) 7 2 k ∷ from (k + 1) ∷ [])) e f ∙ last (from (k + 1)))
     where
       last : (o : Option Refusal) → firstOf (none ∷ none ∷ o ∷ []) ≡ o
@@ -130,58 +114,35 @@ module _ (t : List Node) (ss : List ℕ) where
 
   pub sequentials-end : (k : ℕ) → length ss ≤ k → from k ≡ none
   unfolding checkSequentials
-  sequentials-end k h = ap (checkSequentials t k (seenBy t ss k)) (drop-of-length-le ss h)
+  sequentials-end k h = ap (checkSequentials t k (statesBefore t ss k)) (drop-of-length-le ss h)
 
-  -- one more state is marked
-  pub marked : (k : ℕ) (marks : List ℕ) (state : ℕ) → state ≡ stateAt k → state < length marks → Marks t ss k marks → Marks t ss (k + 1) (set marks state 1)
-  unfolding seenBy
-  marked k marks state e h g x = go (eqb x state) refl ∙ rw (add-one k, ← e)
+  -- one more state is listed, and marked
+  pub states-more : (k x : ℕ) → member x (statesBefore t ss (k + 1)) ≡ (eqb x (stateAt k) || member x (statesBefore t ss k))
+  unfolding statesBefore
+  states-more k x = rw (add-one k)
+
+  states-last : (k x : ℕ) → 0 < k → member x (statesBefore t ss k) ≡ (eqb x (stateAt (k - 1)) || member x (statesBefore t ss (k - 1)))
+  states-last k x h = let e : k ≡ k - 1 + 1 = omega arith in ap (λ (m : ℕ). member x (statesBefore t ss m)) e ∙ states-more (k - 1) x
+
+  pub states-hit : (k x : ℕ) → 0 < k → x ≡ stateAt (k - 1) → member x (statesBefore t ss k) ≡ true
+  states-hit k x h e = states-last k x h ∙ ap (λ (b : Bool). b || member x (statesBefore t ss (k - 1))) (eq-eqb x (stateAt (k - 1)) e)
+
+  pub states-miss : (k x : ℕ) → 0 < k → (x ≡ stateAt (k - 1) → ⊥) → member x (statesBefore t ss k) ≡ member x (statesBefore t ss (k - 1))
+  states-miss k x h d = states-last k x h ∙ ap (λ (b : Bool). b || member x (statesBefore t ss (k - 1))) (ne-eqb x (stateAt (k - 1)) d)
+
+  pub states-none : (k x : ℕ) → k ≡ 0 → member x (statesBefore t ss k) ≡ false
+  unfolding statesBefore
+  states-none k x e = ap (λ (m : ℕ). member x (statesBefore t ss m)) e
+
+  pub marked : (k : ℕ) (marks : List ℕ) (state : ℕ) → state ≡ stateAt k → Marks (statesBefore t ss k) marks → Marks (statesBefore t ss (k + 1)) (set marks state 1)
+  marked k marks state e g x h = go (eqb x state) refl ∙ ap (λ (y : ℕ). eqb x y || member x (statesBefore t ss k)) e ∙ sym (states-more k x)
     where
-      go : (b : Bool) → eqb x state ≡ b → eqb (getD (set marks state 1) x 0) 1 ≡ (eqb x state || member x (seenBy t ss k))
-      go true q = rw (q, eqb-true x state q, getD-set-same marks state 1 0 h)
-      go false q = rw (q, getD-set-other marks state x 1 0 (eqb-false x state q)) (g x)
+      inside : x < length marks
+      inside = omega (arith, length-set marks state 1)
 
--- ---- the state of a listed Next stands in the table
-next-kind : (k : Kind) → eqb (kindCode k) 20 ≡ true → k ≡ Next
-next-kind Kind.Const e = absurd (false≢true e)
-next-kind Kind.Read e = absurd (false≢true e)
-next-kind Kind.Write e = absurd (false≢true e)
-next-kind Kind.Ult e = absurd (false≢true e)
-next-kind Kind.Ext e = absurd (false≢true e)
-next-kind Kind.Ite e = absurd (false≢true e)
-next-kind Kind.Eq e = absurd (false≢true e)
-next-kind Kind.And e = absurd (false≢true e)
-next-kind Kind.Or e = absurd (false≢true e)
-next-kind Kind.Not e = absurd (false≢true e)
-next-kind Kind.State e = absurd (false≢true e)
-next-kind Kind.Input e = absurd (false≢true e)
-next-kind Kind.Bad e = absurd (false≢true e)
-next-kind (Kind.Word Op.Add) e = absurd (false≢true e)
-next-kind (Kind.Word Op.Sub) e = absurd (false≢true e)
-next-kind (Kind.Word Op.Mul) e = absurd (false≢true e)
-next-kind (Kind.Word Op.Divu) e = absurd (false≢true e)
-next-kind (Kind.Word Op.Div) e = absurd (false≢true e)
-next-kind (Kind.Word Op.Rem) e = absurd (false≢true e)
-next-kind (Kind.Word Op.Sll) e = absurd (false≢true e)
-next-kind (Kind.Word Op.Srl) e = absurd (false≢true e)
-next-kind Next e = refl
-
-first-below : (bound : ℕ) (nd : Node) (k : Kind) → k ≡ Next → every (λ x. ltb x bound) (operandsAs k nd) ≡ true → nd .a < bound
-first-below bound nd k e h = ltb-true (nd .a) bound (and-both (ltb (nd .a) bound) _ (subst (λ (k : Kind). every (λ x. ltb x bound) (operandsAs k nd) ≡ true) e h) .0)
-
-pub state-inside : (t : List Node) → OperandsBefore t → (s : ℕ) → allTrue (sequentialEntry t s) ≡ true → nodeAt t s .a < length t
-state-inside t h s e =
-    let (inside, more) = and-both (ltb s (length t)) _ e in
-    let l = ltb-true s (length t) inside in
-    let k = next-kind (nodeAt t s .kind) (and-both (is Next (nodeAt t s)) _ more .0) in
-    let b = first-below s (nodeAt t s) (nodeAt t s .kind) k (h s l) in
-    omega arith
-
--- nodes that passed have their operands before them
-pub passed-before : (names : ℕ) (rs : List Row) → checkNodes names (map decode rs) 0 rs ≡ none → OperandsBefore (map decode rs)
-passed-before names rs e k h =
-    let l : k < length rs = omega (arith, map-length decode rs) in
-    ap (rule4 k) (List·getD-map decode rs k rowUnknown) ∙ node-passes names (map decode rs) k (getD rs k rowUnknown) (each-passes names (map decode rs) rs e k l)
+      go : (b : Bool) → eqb x state ≡ b → eqb (getD (set marks state 1) x 0) 1 ≡ (eqb x state || member x (statesBefore t ss k))
+      go true q = let same = eqb-true x state q in rw (q, same, getD-set-same marks state 1 0 (omega (arith, inside)))
+      go false q = rw (q, getD-set-other marks state x 1 0 (eqb-false x state q)) (g x inside)
 
 -- words that are all 0 read as 0
 pub zeros : (n k : ℕ) → _≡_ {A = ℕ} (getD (replicate n 0) k 0) 0
@@ -189,7 +150,7 @@ zeros zero k = refl
 zeros (suc n) zero = refl
 zeros (suc n) (suc k) = zeros n k
 
--- at first no state was seen, and every mark is 0
-pub unmarked : (t : List Node) (ss : List ℕ) (n : ℕ) → Marks t ss 0 (replicate n 0)
-unfolding seenBy
-unmarked t ss n x = ap (λ (m : ℕ). eqb m 1) (zeros n x)
+-- at first no state is listed, and every mark is 0
+pub unmarked : (t : List Node) (ss marks : List ℕ) → ((k : ℕ) → getD marks k 0 ≡ 0) → Marks (statesBefore t ss 0) marks
+unfolding statesBefore
+unmarked t ss marks z x h = ap (λ (m : ℕ). eqb m 1) (z x)

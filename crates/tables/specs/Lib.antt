@@ -1,3 +1,4 @@
+pub mod LimitAnswers
 pub mod Refusals
 pub mod SectionAnswers
 pub mod NodeAnswers

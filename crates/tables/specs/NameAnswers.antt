@@ -13,7 +13,7 @@ use lib.ListN.{length, getD, drop}
 use Rattle.btor.specs.Operators.{bit}
 use Rattle.rules.specs.Refusal.{Out, refused, done, _>>=_}
 use Rattle.rules.specs.Table.{Row, rowWidth}
-use Rattle.rules.specs.Limits.{house}
+use Rattle.rules.specs.Limits.{Limits}
 use Rattle.rules.specs.Sections.{Part, cutSection, rowsOf}
 use Rattle.rules.specs.Names.{cutNames, namesOf, nameStart, nameSize, dump}
 use Rattle.rules.specs.Label.{at, named}
@@ -34,16 +34,16 @@ unfoldable pub counted : Out (List (List ℕ)) → Out ℕ
 counted (refused r) = refused r
 counted (done names) = done (length names)
 
-abbrev pub namesCount : List ℕ → Out ℕ
-namesCount bs = counted (namesOf house bs)
+abbrev pub namesCount : Limits → List ℕ → Out ℕ
+namesCount limits bs = counted (namesOf limits bs)
 
 -- ---- one name, its length byte at a place: where its bytes start, and how many they are
 abbrev pub readOf : NameRead → Out (ℕ × ℕ)
 readOf (reads.Name start len) = done (start, len)
 readOf (reads.Refused r) = refused (refusalOf r)
 
-unfoldable pub readAt : List ℕ → ℕ → Out (ℕ × ℕ)
-readAt bs at = cutNames house 1 (drop at bs) >>= λ p. done (at + 1, getD bs at 0)
+unfoldable pub readAt : Limits → List ℕ → ℕ → Out (ℕ × ℕ)
+readAt limits bs at = cutNames limits 1 (drop at bs) >>= λ p. done (at + 1, getD bs at 0)
 
 -- ---- "k for the k-th name, from 1, and 0 for none": where its bytes start, and how many they are, if the bytes are not refused and have a name k
 abbrev pub placed : NamePlace → Option (ℕ × ℕ)
@@ -58,27 +58,27 @@ unfoldable pub placeAmong : List ℕ → ℕ → Out (List (List ℕ)) → Optio
 placeAmong bs k (refused r) = none
 placeAmong bs k (done names) = placeIf bs k (named names k)
 
-abbrev pub placeOf : List ℕ → ℕ → Option (ℕ × ℕ)
-placeOf bs k = placeAmong bs k (namesOf house bs)
+abbrev pub placeOf : Limits → List ℕ → ℕ → Option (ℕ × ℕ)
+placeOf limits bs k = placeAmong bs k (namesOf limits bs)
 
 -- ---- "whether its bytes begin with `memory-dump`": no name's do where the bytes are refused
 unfoldable pub dumpAmong : Out (List (List ℕ)) → ℕ → Bool
 dumpAmong (refused r) k = false
 dumpAmong (done names) k = dump names k
 
-abbrev pub isDump : List ℕ → ℕ → Bool
-isDump bs k = dumpAmong (namesOf house bs) k
+abbrev pub isDump : Limits → List ℕ → ℕ → Bool
+isDump limits bs k = dumpAmong (namesOf limits bs) k
 
-abbrev pub dumpMark : List ℕ → ℕ → ℕ
-dumpMark bs k = bit (isDump bs k)
+abbrev pub dumpMark : Limits → List ℕ → ℕ → ℕ
+dumpMark limits bs k = bit (isDump limits bs k)
 
 -- ---- section 1 alone: none of its nodes is there where it is refused
 unfoldable pub nodesCut : Out Part → ℕ
 nodesCut (refused r) = 0
 nodesCut (done nodes) = nodes .count
 
-abbrev pub nodesIn : List ℕ → ℕ
-nodesIn words = nodesCut (cutSection 1 (house .nodes) rowWidth words)
+abbrev pub nodesIn : Limits → List ℕ → ℕ
+nodesIn limits words = nodesCut (cutSection 1 (limits .nodes) rowWidth words)
 
 -- the name word of a node, 0 for a node past the table
 abbrev pub nameWord : Option Row → ℕ
@@ -89,5 +89,5 @@ unfoldable pub nameWordAmong : ℕ → Out Part → ℕ
 nameWordAmong node (refused r) = 0
 nameWordAmong node (done nodes) = nameWord (at (rowsOf (nodes .count) (nodes .content)) node)
 
-abbrev pub nameWordOf : List ℕ → ℕ → ℕ
-nameWordOf words node = nameWordAmong node (cutSection 1 (house .nodes) rowWidth words)
+abbrev pub nameWordOf : Limits → List ℕ → ℕ → ℕ
+nameWordOf limits words node = nameWordAmong node (cutSection 1 (limits .nodes) rowWidth words)

@@ -1,8 +1,8 @@
 -- What the answers of sections.rt say of the words, in the rules' terms.
---     foundOf    a section: its content and the words after it       cutOf    the six sections
+--     foundOf    a section: its content and the words after it       sixOf, cutOf    the six sections
 --     Inside     where the sections stand
 -- Assumes nothing.
-use Prim.Native.Nat.{ℕ, _+_, _*_, _≤_}
+use Prim.Native.Nat.{ℕ, _+_, _*_, _^_, _<_, _≤_}
 use mathlib.Core.Path.{_≡_}
 use mathlib.Core.List.{List}
 use lib.ListN.{length, take, drop}
@@ -39,11 +39,17 @@ abbrev pub cutOf : List ℕ → Cut → Out rules.Sections
 cutOf ws (Cut.Whole s) = done (sectionsIn ws s)
 cutOf ws (Cut.Refused r) = refused (refusalOf r)
 
--- where a section stands whose count is at a place: its words follow the count, and end in the words
+-- the six sections, and the words after them
+abbrev pub sixOf : List ℕ → Cut → Out (rules.Sections × List ℕ)
+sixOf ws (Cut.Whole s) = done (sectionsIn ws s, drop (s .replies .end) ws)
+sixOf ws (Cut.Refused r) = refused (refusalOf r)
+
+-- where a section stands whose count is at a place: its words follow the count, and end in the words; a limit, and so a count, has 32 bits
 pub record Lies (ws : List ℕ) (at width : ℕ) (p : Part) : Type 0 where
   pub starts : p .start ≡ at + 1
   pub ends : p .end ≡ p .start + width * p .count
   pub within : p .end ≤ length ws
+  pub few : p .count < 2 ^ 32
 
 pub record Inside (ws : List ℕ) (s : Sections) : Type 0 where
   pub nodes : Lies ws 0 rowWidth (s .nodes)

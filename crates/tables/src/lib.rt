@@ -1,5 +1,6 @@
 // Tables: cutting words and names bytes into sections, judging nodes and lists, labels. Every public function is total and has no `requires`.
 pub mod refusal; // refusal.rt: why a call is refused
+pub mod limits; // limits.rt: the limits, the room and the highest mode
 pub mod logic; // logic.rt: tests joined
 pub mod sections; // sections.rt: sections 1 to 6 of the words
 pub mod node; // node.rt: the kinds of nodes, and the six words of one

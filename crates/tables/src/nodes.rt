@@ -20,7 +20,8 @@ ghost use lib.ListN.{getD};
 ghost use Rattle.rules.specs.Table.{decode, nodeAt};
 ghost use Rattle.rules.specs.Check.{checkNode, checkNodes};
 ghost use Rattle.tables.specs.NodeAnswers.{rowIs, rowUnknown};
-ghost use Rattle.tables.specs.Judging.{judgedOf, rowsIn, tableIn, IsCut};
+ghost use Rattle.tables.specs.SectionAnswers.{Inside};
+ghost use Rattle.tables.specs.Judging.{judgedOf, rowsIn, tableIn};
 
 pub enum Judged {
     Passed,
@@ -29,7 +30,7 @@ pub enum Judged {
 
 // The node with a number; past the table stands an Input of no sort.
 pub(crate) fn node_at(words: &[u64], sections: Sections, number: u64) -> Row
-    requires { ⌜ IsCut (now words) sections ⌝ }
+    requires { ⌜ Inside (now words) sections ⌝ }
     ensures { λ r. ⌜ decode (rowIs r) ≡ nodeAt (tableIn (now (words .entry)) sections) number ⌝ }
 {
     if number < sections.nodes.count as u64 {
@@ -47,7 +48,7 @@ pub(crate) fn node_at(words: &[u64], sections: Sections, number: u64) -> Row
 
 // One node, by the code of its kind.
 fn judge_node(words: &[u64], sections: Sections, names: u64, node: usize) -> Judged
-    requires { ⌜ IsCut (now words) sections ⌝ }
+    requires { ⌜ Inside (now words) sections ⌝ }
     requires { ⌜ node < sections .nodes .count ⌝ }
     ensures { λ r. ⌜ judgedOf r ≡ checkNode names (tableIn (now (words .entry)) sections) node (getD (rowsIn (now (words .entry)) sections) node rowUnknown) ⌝ }
 {
@@ -72,7 +73,7 @@ fn judge_node(words: &[u64], sections: Sections, names: u64, node: usize) -> Jud
 }
 
 pub(crate) fn judge_nodes(words: &[u64], sections: Sections, names: u64) -> Judged
-    requires { ⌜ IsCut (now words) sections ⌝ }
+    requires { ⌜ Inside (now words) sections ⌝ }
     ensures { λ r. ⌜ judgedOf r ≡ checkNodes names (tableIn (now (words .entry)) sections) 0 (rowsIn (now (words .entry)) sections) ⌝ }
 {
     let mut node = 0;

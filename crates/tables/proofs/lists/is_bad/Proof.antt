@@ -15,7 +15,7 @@ all-requires c κs = search needs
 returns : tie.Need-returns
 returns c =
     let start = c .before .before .before .before in
-    c .all .ensures ∙ bad-entry (start .args .words .now) (start .args .sections) (start .pre) (start .args .entry) (c .before .before .node-at .result) (c .before .before .node-at .ensures)
+    c .all .ensures ∙ bad-entry (start .args .words .now) (start .args .sections) (start .args .entry) (c .before .before .node-at .result) (c .before .before .node-at .ensures)
 
 pub is-bad-spec : {M : Type 1} → statement M
 is-bad-spec = tie.close (tie.spec node-at-requires all-requires returns)

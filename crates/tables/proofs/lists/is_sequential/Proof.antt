@@ -23,7 +23,7 @@ returns c =
     let at-node-at2 = c .before .before .before .before in
     let at-node-at = at-node-at2 .before in
     let start = at-node-at .before .before in
-    rw (c .all2 .ensures, c .before .all .ensures) (sequential-entry (start .args .words .now) (start .args .sections) (start .pre) (start .args .entry) (at-node-at .node-at .result) (at-node-at2 .node-at2 .result) (at-node-at .node-at .ensures) (at-node-at2 .node-at2 .ensures))
+    rw (c .all2 .ensures, c .before .all .ensures) (sequential-entry (start .args .words .now) (start .args .sections) (start .args .entry) (at-node-at .node-at .result) (at-node-at2 .node-at2 .result) (at-node-at .node-at .ensures) (at-node-at2 .node-at2 .ensures))
 
 pub is-sequential-spec : {M : Type 1} → statement M
 is-sequential-spec =

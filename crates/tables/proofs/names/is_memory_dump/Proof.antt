@@ -18,7 +18,7 @@ enum-known-start : tie.Need-enum-known-start
 enum-known-start c = search needs
 
 add-starts-with-memory-dump : tie.Need-add-starts-with-memory-dump
-add-starts-with-memory-dump c = omega (arith, place-inside _ _ _ _ (sym (c .before .before .before .name-place .ensures) ∙ ap placed (c .before .start .given .1)))
+add-starts-with-memory-dump c = omega (arith, place-inside _ _ _ _ _ (sym (c .before .before .before .name-place .ensures) ∙ ap placed (c .before .start .given .1)))
 
 sub-starts-with-memory-dump : tie.Need-sub-starts-with-memory-dump
 sub-starts-with-memory-dump c = search needs
@@ -27,7 +27,7 @@ part-starts-with-memory-dump-start : tie.Need-part-starts-with-memory-dump-start
 part-starts-with-memory-dump-start c = search needs
 
 part-starts-with-memory-dump-end : tie.Need-part-starts-with-memory-dump-end
-part-starts-with-memory-dump-end c = omega (arith, place-inside _ _ _ _ (sym (c .before .before .before .name-place .ensures) ∙ ap placed (c .before .start .given .1)))
+part-starts-with-memory-dump-end c = omega (arith, place-inside _ _ _ _ _ (sym (c .before .before .before .name-place .ensures) ∙ ap placed (c .before .start .given .1)))
 
 starts-with-memory-dump-requires : tie.Need-starts-with-memory-dump-requires
 starts-with-memory-dump-requires c κs = search needs
@@ -45,14 +45,14 @@ returns c =
     let e : start + len - start ≡ len = omega arith in
     c .starts-with-memory-dump .ensures
     ∙ ap (λ (n : ℕ). startsWith memoryDump (take n (drop start bs))) e
-    ∙ sym (dump-place bs k ∙ ap (λ p. startsWith memoryDump (textOf bs p)) (sym (c .before .before .before .before .before .name-place .ensures) ∙ ap placed (c .before .before .before .start .given .1)))
+    ∙ sym (dump-place _ bs k ∙ ap (λ p. startsWith memoryDump (textOf bs p)) (sym (c .before .before .before .before .before .name-place .ensures) ∙ ap placed (c .before .before .before .start .given .1)))
 
 returns-2 : tie.Need-returns-2
 unfolding textOf startsWith
 returns-2 c =
     let bs = c .before .before .before .before .args .names .now in
     let k = c .before .before .before .before .args .k in
-    sym (dump-place bs k ∙ ap (λ p. startsWith memoryDump (textOf bs p)) (sym (c .before .before .name-place .ensures) ∙ ap placed (c .enum-told .given .1)))
+    sym (dump-place _ bs k ∙ ap (λ p. startsWith memoryDump (textOf bs p)) (sym (c .before .before .name-place .ensures) ∙ ap placed (c .enum-told .given .1)))
 
 pub is-memory-dump-spec : {M : Type 1} → statement M
 is-memory-dump-spec =

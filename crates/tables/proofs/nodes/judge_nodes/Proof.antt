@@ -46,7 +46,7 @@ loop-again c =
     let rows = rowsIn ws s in
     let names = start .args .names in
     let node = at-loop .loop .node in
-    let all = rows-count ws s (start .pre) in (
+    let all = rows-count ws s in (
       omega arith,
       nodes-pass names t rows node (omega (arith, all, at-if1 .if1 .taken)) (sym (c .before .before .judge-node .ensures) ∙ ap judgedOf (c .enum-told .given .1)) ∙ at-loop .loop .inv .1,
     )
@@ -66,7 +66,7 @@ returns c =
     let rows = rowsIn ws s in
     let names = start .args .names in
     let node = at-loop .loop .node in
-    let all = rows-count ws s (start .pre) in
+    let all = rows-count ws s in
     nodes-stop names t rows node (refusalOf (c .before .why .given .0 .0)) (omega (arith, all, at-if1 .if1 .taken)) (sym (at-judge-node .judge-node .ensures) ∙ ap judgedOf (c .before .why .given .1))
     ∙ at-loop .loop .inv .1
 
@@ -79,7 +79,7 @@ returns-2 c =
     let rows = rowsIn ws s in
     let names = start .args .names in
     let node = c .before .before .loop .node in
-    let all = rows-count ws s (start .pre) in
+    let all = rows-count ws s in
     sym (nodes-end names t rows node (omega (arith, all, c .if1 .left))) ∙ c .before .before .loop .inv .1
 
 pub judge-nodes-spec : {M : Type 1} → statement M

@@ -33,7 +33,7 @@ sub-if3 c = search needs
 mul-if3 : tie.Need-mul-if3
 mul-if3 c =
     let start = c .before .before .before in
-    record { fits = omega (arith, mul-le-mul (start .pre .1) (c .if2 .left), start .pre .0) }
+    record { fits = omega (arith, mul-le-mul (start .pre) (c .if2 .left)) }
 
 returns-3 : tie.Need-returns-3
 returns-3 c =
@@ -44,7 +44,7 @@ returns-3 c =
 mul-t9 : tie.Need-mul-t9
 mul-t9 c =
     let start = c .before .before .before .before in
-    record { fits = omega (arith, mul-le-mul (start .pre .1) (c .before .if2 .left), start .pre .0) }
+    record { fits = omega (arith, mul-le-mul (start .pre) (c .before .if2 .left)) }
 
 add-t15 : tie.Need-add-t15
 add-t15 c = search needs
@@ -53,7 +53,7 @@ returns-4 : tie.Need-returns-4
 returns-4 c =
     let at-if1 = c .before .before .before in
     let start = at-if1 .before in
-    (sym (whole-at (start .args .section) (start .args .limit) (start .args .width) (start .args .words .now) (start .args .at) (at-if1 .if1 .left) (c .before .if2 .left) (omega arith)), λ p e. lies-section _ _ _ _ p e (record { starts = refl; ends = refl; within = omega arith }))
+    (sym (whole-at (start .args .section) (start .args .limit) (start .args .width) (start .args .words .now) (start .args .at) (at-if1 .if1 .left) (c .before .if2 .left) (omega arith)), λ p e. lies-section _ _ _ _ p e (record { starts = refl; ends = refl; within = omega arith; few = omega (arith, c .before .if2 .left) }))
 
 pub section-at-spec : {M : Type 1} → statement M
 section-at-spec =
