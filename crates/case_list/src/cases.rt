@@ -7,6 +7,7 @@ use crate::numbers::wide;
 use tables::judge::Verdict;
 use tables::judge::judge;
 use tables::label::label;
+use tables::limits::Limits;
 use tables::refusal::Refusal;
 
 // The most bytes: 4,096 names of 64 bytes, and some over.
@@ -107,6 +108,7 @@ pub fn judged(numbers: &[u64], head: usize, words: usize, names: usize, end: usi
         first_bytes(&bytes, count),
         number_at(numbers, 1) as usize,
         number_at(numbers, 2) as usize,
+        Limits::house(),
     );
     right_or_wrong(is_answer(verdict, kept))
 }

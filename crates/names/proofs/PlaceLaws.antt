@@ -30,14 +30,14 @@ module _ (bs : List ℕ) (at : ℕ) where
   unfolding nextAt
   next-end h = rw (le-ltb at (length bs) h, nextAt)
 
-  pub next-read : at < length bs → nextAt bs at ≡ (readAt bs at >>= λ q. done (some q))
+  pub next-read : at < length bs → nextAt bs at ≡ (readAt house bs at >>= λ q. done (some q))
   unfolding nextAt
   next-read h = rw (lt-ltb at (length bs) h, nextAt)
 
   abbrev oneRead : Out (List (List ℕ) × List ℕ) → Out (ℕ × ℕ)
   oneRead o = o >>= λ p. done (at + 1, getD bs at 0)
 
-  pub name-refused : (r : Refusal) → readAt bs at ≡ refused r → nameAt bs at ≡ []
+  pub name-refused : (r : Refusal) → readAt house bs at ≡ refused r → nameAt bs at ≡ []
   unfolding nameAt readAt
   name-refused r e = go (cutNames house 1 (drop at bs)) e
     where
@@ -45,11 +45,11 @@ module _ (bs : List ℕ) (at : ℕ) where
       go (refused q) e = refl
       go (done p) e = never (refused r) r (at + 1, getD bs at 0) refl (sym e)
 
-  pub after-found : (start len : ℕ) → readAt bs at ≡ done (start, len) → afterAt bs at ≡ start + len
+  pub after-found : (start len : ℕ) → readAt house bs at ≡ done (start, len) → afterAt bs at ≡ start + len
   unfolding afterAt
   after-found start len e = ap (λ o. pastRead at o) e
 
-  pub after-refused : (r : Refusal) → readAt bs at ≡ refused r → afterAt bs at ≡ at
+  pub after-refused : (r : Refusal) → readAt house bs at ≡ refused r → afterAt bs at ≡ at
   unfolding afterAt
   after-refused r e = ap (λ o. pastRead at o) e
 
@@ -75,7 +75,7 @@ module _ (bs : List ℕ) (at : ℕ) (name more : List ℕ) (s : Stands bs at nam
       ∙ name-whole house 0 (length name) (name ++ more) (s .size) (omega (arith, length-append name more))
       ∙ rw (take-append-seam name more, drop-append-seam name more)
 
-  pub read-here : readAt bs at ≡ done (at + 1, length name)
+  pub read-here : readAt house bs at ≡ done (at + 1, length name)
   unfolding readAt
   read-here = ap (λ o. o >>= λ p. done (at + 1, getD bs at 0)) cut-here ∙ ap (λ n. done (at + 1, n)) size-here
 
@@ -96,7 +96,7 @@ module _ (bs : List ℕ) (at : ℕ) (name more : List ℕ) (s : Stands bs at nam
   more-here = sym (drop-drop (length name) (at + 1) bs) ∙ ap (λ l. drop (length name) l) bytes-here ∙ drop-append-seam name more
 
 -- a name stands where one is read
-pub standing : {C : Type 0} (bs : List ℕ) (at : ℕ) (q : ℕ × ℕ) → readAt bs at ≡ done q
+pub standing : {C : Type 0} (bs : List ℕ) (at : ℕ) (q : ℕ × ℕ) → readAt house bs at ≡ done q
     → ((name more : List ℕ) → Stands bs at name more → q ≡ (at + 1, length name) → C) → C
 unfolding readAt sizedNames
 standing {C} bs at q e k = through (cutNames house 1 (drop at bs)) (λ p. done (at + 1, getD bs at 0)) q e λ p c f. single (p .0) (p .1) (cutNames-done house 1 (drop at bs) p c)
@@ -110,7 +110,7 @@ standing {C} bs at q e k = through (cutNames house 1 (drop at bs)) (λ p. done (
         found name rest (record { bytes = sym (n .bytes) ∙ ap (λ l. length name ∷ l ++ rest) (append-nil name); size = n .sizes .0 })
     single (name ∷ other ∷ names) rest n = let o : ⊥ = omega (arith, n .counted) in absurd o
 
-pub name-found : (bs : List ℕ) (at start len : ℕ) → readAt bs at ≡ done (start, len) → nameAt bs at ≡ part bs start len
+pub name-found : (bs : List ℕ) (at start len : ℕ) → readAt house bs at ≡ done (start, len) → nameAt bs at ≡ part bs start len
 name-found bs at start len e =
     standing bs at (start, len) e λ name more s p. name-here bs at name more s ∙ sym (part-here bs at name more s) ∙ sym (ap (λ (q : ℕ × ℕ). part bs (q .0) (q .1)) p)
 
@@ -138,7 +138,7 @@ name-size (name ∷ names) (suc (suc k)) h = name-size names (suc k) (h .1)
 
 -- at the end of the bytes no name is read
 name-end : (bs : List ℕ) → nameAt bs (length bs) ≡ []
-name-end bs = name-refused bs (length bs) _ (read-missing bs (length bs) (omega arith))
+name-end bs = name-refused bs (length bs) _ (read-missing house bs (length bs) (omega arith))
 
 module _ (bs : List ℕ) (names : List (List ℕ)) (e : namesOf house bs ≡ done names) (k : ℕ) (room : nameStart bs k + nameSize bs k ≤ length bs)
     (n : named names k ≡ some (part bs (nameStart bs k) (nameSize bs k))) where
@@ -155,14 +155,14 @@ module _ (bs : List ℕ) (names : List (List ℕ)) (e : namesOf house bs ≡ don
   name-there : nameAt bs (nameStart bs k - 1) ≡ nameOf names k
   name-there =
       ap (λ i. nameAt bs i) begins
-      ∙ name-found bs (lengthPlace (k - 1) bs 2) _ _ (read-whole bs (lengthPlace (k - 1) bs 2) (omega arith) size-within room)
+      ∙ name-found bs (lengthPlace (k - 1) bs 2) _ _ (read-whole house bs (lengthPlace (k - 1) bs 2) (omega arith) size-within room)
       ∙ sym (name-is names k _ n)
 
 -- the name that is read where name k begins is name k
-pub name-begins : (bs : List ℕ) (k : ℕ) → nameAt bs (beginsOr (length bs) (placeOf bs k)) ≡ nameIn bs k
+pub name-begins : (bs : List ℕ) (k : ℕ) → nameAt bs (beginsOr (length bs) (placeOf house bs k)) ≡ nameIn bs k
 unfolding nameAmong
 name-begins bs k =
-    place-by (λ p. nameAt bs (beginsOr (length bs) p) ≡ nameIn bs k) bs k
+    place-by house (λ p. nameAt bs (beginsOr (length bs) p) ≡ nameIn bs k) bs k
     (λ r e. name-end bs ∙ sym (ap (λ o. nameAmong o k) e))
     (λ names e n. name-end bs ∙ sym (nameless names k n) ∙ sym (ap (λ o. nameAmong o k) e))
     (λ names e room n. name-there bs names e k room n ∙ sym (ap (λ o. nameAmong o k) e))
@@ -172,6 +172,6 @@ Begun : Option (ℕ × ℕ) → Type 0
 Begun none = Unit
 Begun (some q) = 1 ≤ q .0
 
-pub begun : (bs : List ℕ) (k start len : ℕ) → placeOf bs k ≡ some (start, len) → 1 ≤ start
+pub begun : (bs : List ℕ) (k start len : ℕ) → placeOf house bs k ≡ some (start, len) → 1 ≤ start
 unfolding Begun
-begun bs k start len e = subst (λ p. Begun p) e (place-by (λ p. Begun p) bs k (λ r n. tt) (λ names n m. tt) (λ names n l m. omega arith))
+begun bs k start len e = subst (λ p. Begun p) e (place-by house (λ p. Begun p) bs k (λ r n. tt) (λ names n m. tt) (λ names n l m. omega arith))

@@ -68,18 +68,18 @@ module _ (bs : List ℕ) (at : ℕ) where
       some-read (done q) f = let z : _≡_ {A = ℕ} 0 1 = cc in let o : ⊥ = omega arith in absurd o
 
       go : (b : Bool) → ltb at (length bs) ≡ b → length bs ≤ at
-      go true t = some-read (readAt bs at) (sym (next-read bs at (ltb-true at (length bs) t)) ∙ e)
+      go true t = some-read (readAt house bs at) (sym (next-read bs at (ltb-true at (length bs) t)) ∙ e)
       go false t = ltb-false at (length bs) t
 
-  next-some : (q : ℕ × ℕ) → nextAt bs at ≡ done (some q) → readAt bs at ≡ done q
+  next-some : (q : ℕ × ℕ) → nextAt bs at ≡ done (some q) → readAt house bs at ≡ done q
   next-some q e = go (ltb at (length bs)) refl
     where
       some-read : (o : Out (ℕ × ℕ)) → _≡_ {A = Out (Option (ℕ × ℕ))} (o >>= λ q. done (some q)) (done (some q)) → o ≡ done q
       some-read (refused r) f = never (refused r) r (some q) refl f
       some-read (done p) f = cc
 
-      go : (b : Bool) → ltb at (length bs) ≡ b → readAt bs at ≡ done q
-      go true t = some-read (readAt bs at) (sym (next-read bs at (ltb-true at (length bs) t)) ∙ e)
+      go : (b : Bool) → ltb at (length bs) ≡ b → readAt house bs at ≡ done q
+      go true t = some-read (readAt house bs at) (sym (next-read bs at (ltb-true at (length bs) t)) ∙ e)
       go false t = let z : _≡_ {A = ℕ} 0 1 = cc (next-end bs at (ltb-false at (length bs) t)) in let o : ⊥ = omega arith in absurd o
 
 -- what was read from a place on are the bytes from there

@@ -28,7 +28,7 @@ nextOf (Refused r) = refused (refusalOf r)
 unfoldable pub nextAt : List ℕ → ℕ → Out (Option (ℕ × ℕ))
 nextAt bs at =
     elim (ltb at (length bs)) [
-      | true ↦ readAt bs at >>= λ q. done (some q)
+      | true ↦ readAt house bs at >>= λ q. done (some q)
       | false ↦ done none
     ]
 
@@ -46,7 +46,7 @@ pastRead at (refused r) = at
 pastRead at (done q) = q .0 + q .1
 
 unfoldable pub afterAt : List ℕ → ℕ → ℕ
-afterAt bs at = pastRead at (readAt bs at)
+afterAt bs at = pastRead at (readAt house bs at)
 
 -- ---- reading on to the end: a refusal on the way is the answer. Each name has a length byte, so there are fewer names than bytes.
 abbrev pub readOn : Option (ℕ × ℕ) → List ℕ → Out (List (List ℕ)) → Out (List (List ℕ))
@@ -66,7 +66,7 @@ beginsOr end none = end
 beginsOr end (some q) = q .0 - 1
 
 abbrev pub beginsAt : List ℕ → ℕ → ℕ
-beginsAt bs k = beginsOr (length bs) (placeOf bs k)
+beginsAt bs k = beginsOr (length bs) (placeOf house bs k)
 
 unfoldable pub nameAmong : Out (List (List ℕ)) → ℕ → List ℕ
 nameAmong (refused r) k = []
@@ -80,4 +80,4 @@ isSome none = false
 isSome (some x) = true
 
 abbrev pub isNamed : List ℕ → ℕ → Bool
-isNamed bs k = isSome (placeOf bs k)
+isNamed bs k = isSome (placeOf house bs k)

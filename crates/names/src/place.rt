@@ -1,10 +1,11 @@
 // Names by the place of their length byte, over the bytes and a number. The reader is made of these.
+use tables::limits::Limits;
 use tables::names::NamePlace;
 use tables::names::NameRead;
-use tables::names::name_place;
-use tables::names::read_name;
 use tables::refusal::Refusal;
 ghost use mathlib.Core.Path.{_≡_};
+ghost use Rattle.rules.specs.Limits.{house};
+ghost use Rattle.tables.specs.NameAnswers.{readOf, readAt, placed, placeOf};
 ghost use Rattle.names.specs.Reading.{nextOf, nextAt, nameAt, afterAt, beginsAt, isNamed};
 
 // What stands at a place.
@@ -12,6 +13,19 @@ pub enum NextName {
     Name { start: usize, len: usize },
     End,
     Refused(Refusal),
+}
+
+// The name at a place, and the place of a name, by the house's limits.
+fn read_name(names: &[u8], at: usize) -> NameRead
+    ensures { λ r. ⌜ readOf r ≡ readAt house (now (names .entry)) at ⌝ }
+{
+    tables::names::read_name(names, at, Limits::house())
+}
+
+fn name_place(names: &[u8], k: u64) -> NamePlace
+    ensures { λ r. ⌜ placed r ≡ placeOf house (now (names .entry)) k ⌝ }
+{
+    tables::names::name_place(names, k, Limits::house())
 }
 
 // The name whose length byte stands at a place, the end of the bytes, or why no name can be read there.

@@ -54,7 +54,7 @@ bind-refused (refused q) f r e = let z : r ≡ q = cc in ap (λ (x : Refusal). r
 bind-refused (done x) f r e = never (refused r) r (f x) refl e
 
 module _ (mode : ℕ) (ws bs : List ℕ) (room scratch : ℕ) where
-  pub in-order : (s : Sections) (k : ℕ) → verdictOf ws (Verdict.Accepted s k) ≡ judgedCount house mode ws bs room scratch → IsCut ws s
+  pub in-order : (s : Sections) (k : ℕ) → verdictOf ws (Verdict.Accepted s k) ≡ judgedCount house mode ws bs room scratch → IsCut house ws s
       → InOrder (callWith mode ws bs room scratch) s
   in-order s k e h =
       through (judged house (callWith mode ws bs room scratch)) _ (sectionsIn ws s, k) (sym e) λ j m f.
@@ -78,9 +78,9 @@ bit-back : (b : Bool) → eqb (bit b) 1 ≡ b
 bit-back true = refl
 bit-back false = refl
 
-pub dumps-are : (bs dumps : List ℕ) (names : List (List ℕ)) → namesOf house bs ≡ done names → ((k : ℕ) → getD dumps k 0 ≡ dumpMark bs k)
+pub dumps-are : (bs dumps : List ℕ) (names : List (List ℕ)) → namesOf house bs ≡ done names → ((k : ℕ) → getD dumps k 0 ≡ dumpMark house bs k)
     → (λ (k : ℕ). eqb (getD dumps k 0) 1) ≡ dump names
-dumps-are bs dumps names e marks = fun-ext (λ k. ap (λ (n : ℕ). eqb n 1) (marks k ∙ accepted-mark bs names e k) ∙ bit-back (dump names k))
+dumps-are bs dumps names e marks = fun-ext (λ k. ap (λ (n : ℕ). eqb n 1) (marks k ∙ accepted-mark house bs names e k) ∙ bit-back (dump names k))
 
 -- ---- the model in the parts of the words
 same-model : (t u : List Node) (d f : ℕ → Bool) (a b c i r a' b' c' i' r' : List ℕ) → t ≡ u → d ≡ f → a ≡ a' → b ≡ b' → c ≡ c' → i ≡ i' → r ≡ r'
@@ -88,7 +88,7 @@ same-model : (t u : List Node) (d f : ℕ → Bool) (a b c i r a' b' c' i' r' : 
     (record { table = u; dump = f; sequentials = a'; initial = b'; later = c'; inputs = i'; replies = r' })
 same-model t u d f a b c i r a' b' c' i' r' e₁ e₂ e₃ e₄ e₅ e₆ e₇ = cc
 
-module _ (ws : List ℕ) (s : Sections) (h : IsCut ws s) where
+module _ (ws : List ℕ) (s : Sections) (h : IsCut house ws s) where
   nothing : (at : ℕ) → between ws at at ≡ []
   nothing at = let z : at - at ≡ 0 = omega arith in ap (λ (n : ℕ). take n (drop at ws)) z
 
@@ -133,7 +133,7 @@ module _ (ws : List ℕ) (s : Sections) (h : IsCut ws s) where
   code-in : (k : ℕ) → k < countOf ws → rowAt (rowsIn ws s) k .code ≡ wordOf ws k 0
   code-in k l =
       let at : rowWidth * k + 1 ≡ 1 + rowWidth * k + 0 = omega arith in
-      ap (λ (r : Row). r .code) (row-at house ws (sectionsIn ws s) (h .whole) k noRow (omega (arith, count-is ws s h, rows-count ws s h)) ∙ row-words ws (rowWidth * k + 1))
+      ap (λ (r : Row). r .code) (row-at house ws (sectionsIn ws s) (h .whole) k noRow (omega (arith, count-is ws s h, rows-count ws s)) ∙ row-words ws (rowWidth * k + 1))
       ∙ ap (λ (n : ℕ). getD ws n 0) at
 
   pub kinds-known : (names : List (List ℕ)) → check (length names) (rowsIn ws s) (modelFrom names (sectionsIn ws s)) ≡ none → KindsKnown ws
@@ -141,7 +141,7 @@ module _ (ws : List ℕ) (s : Sections) (h : IsCut ws s) where
   kinds-known names e k l =
       let S : rules.Sections = sectionsIn ws s in
       let meets = accepted (length names) (S .rows) (dump names) (S .sequentials) (S .initial) (S .later) (S .inputs) (S .replies) e in
-      let known = and-both (knownKind (rowAt (rowsIn ws s) k .code)) _ (meets .rows k (omega (arith, count-is ws s h, rows-count ws s h))) .0 in
+      let known = and-both (knownKind (rowAt (rowsIn ws s) k .code)) _ (meets .rows k (omega (arith, count-is ws s h, rows-count ws s))) .0 in
       subst (λ (c : ℕ). kindCode (kindOf c) ≡ c) (code-in k l) (code-of-kind (rowAt (rowsIn ws s) k .code) known)
 
 pub well-formed : (e : Entry) (names : List (List ℕ)) (S : rules.Sections) → check (length names) (S .rows) (modelFrom names S) ≡ none
@@ -163,7 +163,7 @@ unfolding left
 scratch-left e call n l = ap (λ (n : ℕ). replicate n 0) l
 
 -- ---- a call in order
-module _ (call : Call) (s : Sections) (p : InOrder call s) (dumps : List ℕ) (marks : (k : ℕ) → getD dumps k 0 ≡ dumpMark (call .names) k) where
+module _ (call : Call) (s : Sections) (p : InOrder call s) (dumps : List ℕ) (marks : (k : ℕ) → getD dumps k 0 ≡ dumpMark house (call .names) k) where
   passed : Passed house call (p .with)
   passed = judged-passed house call (p .with) (p .judged)
 
@@ -179,7 +179,7 @@ module _ (call : Call) (s : Sections) (p : InOrder call s) (dumps : List ℕ) (m
       let w = call .words in
       let within = encode-cut house w (sectionsIn w s) (h .whole) .1 in
       let counted = count-is w s h in
-      let rows = rows-count w s h in
+      let rows = rows-count w s in
       let l₂ = ap length (part-is w _ (s .sequentials) (h .inside .sequentials)) in
       let l₃ = ap length (part-is w _ (s .initial) (h .inside .initial)) in
       let l₄ = ap length (part-is w _ (s .later) (h .inside .later)) in

@@ -14,36 +14,27 @@ use Rattle.tables.specs.SectionAnswers.{sectionsIn, wordsIn, Lies}
 use Rattle.tables.specs.Judging.{tableIn, IsCut}
 use Rattle.tables.specs.declared.sections.Part.{Part}
 use Rattle.tables.specs.declared.sections.Sections.{Sections}
-use Rattle.tables.proofs.JudgeLaws.{row-words, rows-count, node-in}
+use Rattle.tables.proofs.JudgeLaws.{rows-count, node-in}
 use Rattle.tables.proofs.ListLaws.{table-count}
 use Rattle.rules.proofs.Sections.{encode-cut}
 use Rattle.optimize.specs.Bounds.{countOf}
 use Rattle.optimize.specs.View.{nodeOf, firsts, tableOf}
 use Rattle.optimize.proofs.Views.{firsts-length, firsts-at}
 
-module _ (ws : List ℕ) (s : Sections) (h : IsCut ws s) where
+module _ (ws : List ℕ) (s : Sections) (h : IsCut house ws s) where
   -- the first word is the count of nodes
   pub count-is : countOf ws ≡ s .nodes .count
   unfolding encode
-  count-is = ap (λ (l : List ℕ). getD l 0 0) (sym (encode-cut house ws (sectionsIn ws s) (h .whole) .0)) ∙ rows-count ws s h
+  count-is = ap (λ (l : List ℕ). getD l 0 0) (sym (encode-cut house ws (sectionsIn ws s) (h .whole) .0)) ∙ rows-count ws s
 
   pub node-is : (k : ℕ) → k < s .nodes .count → nodeOf ws k ≡ nodeAt (tableIn ws s) k
-  node-is k l = sym (node-in ws s h k l ∙ ap decode (row-words ws (rowWidth * k + 1)) ∙ places)
-    where
-      at : (j : ℕ) → rowWidth * k + 1 + j ≡ 1 + rowWidth * k + j
-      at j = omega arith
-
-      first : rowWidth * k + 1 ≡ 1 + rowWidth * k + 0
-      first = omega arith
-
-      places : decode (record { code = getD ws (rowWidth * k + 1) 0; sort = getD ws (rowWidth * k + 1 + 1) 0; a = getD ws (rowWidth * k + 1 + 2) 0; b = getD ws (rowWidth * k + 1 + 3) 0; c = getD ws (rowWidth * k + 1 + 4) 0; name = getD ws (rowWidth * k + 1 + 5) 0 }) ≡ nodeOf ws k
-      places = rw (at 1, at 2, at 3, at 4, at 5, first)
+  node-is k l = sym (node-in ws s (h .inside) k l)
 
   pub table-is : tableOf ws ≡ tableIn ws s
   unfolding tableOf
   table-is =
       ext-getD unknown (firsts (countOf ws) (nodeOf ws)) (tableIn ws s)
-      (firsts-length (countOf ws) (nodeOf ws) ∙ count-is ∙ sym (table-count ws s h))
+      (firsts-length (countOf ws) (nodeOf ws) ∙ count-is ∙ sym (table-count ws s))
       (λ k l.
       let below : k < countOf ws = omega (arith, firsts-length (countOf ws) (nodeOf ws)) in
       firsts-at (countOf ws) (nodeOf ws) unknown k below ∙ node-is k (omega (arith, count-is)))

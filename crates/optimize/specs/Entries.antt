@@ -50,7 +50,7 @@ resultLeft (Optimized.Refused r) Q = replicate (length Q) 0
 
 -- a call that is judged in order, its words cut into these sections
 pub record InOrder (call : rules.Call) (s : Sections) : Type 0 where
-  pub is-cut : IsCut (call .words) s
+  pub is-cut : IsCut house (call .words) s
   pub with : rules.Judged
   pub judged : rules.judged house call ≡ done with
   pub sections : with .sections ≡ sectionsIn (call .words) s

@@ -10,9 +10,11 @@ use crate::fold::Constant;
 use crate::lists::put_entry;
 use crate::lists::visit_in;
 use crate::smt_solver::Asked;
+use crate::smt_solver::SATISFIABLE;
 use crate::smt_solver::ask_at;
 use crate::walk::Visited;
 use crate::walk::Walk;
+use tables::node::Row;
 use tables::refusal::Refusal;
 ghost use Prim.Native.Nat.{_+_, _<_, _≤_};
 ghost use mathlib.Core.Path.{_≡_};
@@ -99,7 +101,7 @@ fn judge_bad(
     if !how.solver {
         return Retained::Done(walk, true);
     }
-    let asked = ask_at(given, replies, scratch, walk, 4, condition, 0);
+    let asked = ask_at(given, replies, scratch, walk, SATISFIABLE, condition, 0);
     match asked {
         Asked::Reply(after, reply) => by_reply(how, place, after, reply),
         Asked::Refused(refusal) => Retained::Refused(refusal),
@@ -124,7 +126,7 @@ fn should_retain_bad_state(
 {
     match visited {
         Visited::Done(after, _) => {
-            let condition = operand(result, bad, 2);
+            let condition = operand(result, bad, Row::A);
             judge_bad(
                 given,
                 replies_in(given, call),

@@ -4,6 +4,7 @@ use crate::counters::made_one;
 use crate::fold::Constant;
 use tables::node::CodedKind;
 use tables::node::NodeKind;
+use tables::node::Row;
 ghost use Prim.Native.Nat.{_+_, _*_, _<_, _≤_};
 ghost use mathlib.Core.Path.{_≡_};
 ghost use lib.ListN.{length, getD, drop};
@@ -15,9 +16,6 @@ ghost use Rattle.rules.specs.Sections.{wordOf};
 ghost use Rattle.optimize.specs.View.{constantIs, RowKept, rowsOf};
 ghost use Rattle.optimize.specs.Counters.{walkIn, withWalk, oneMade};
 ghost use Rattle.optimize.specs.Clauses.{Pushes, PutsMark, PutsRow};
-
-// The words of a row.
-pub(crate) const ROW: usize = 6;
 
 pub(crate) fn number(x: u64) -> usize
     ensures { λ r. ⌜ r ≡ x ⌝ }
@@ -44,7 +42,7 @@ pub(crate) fn word(table: &[u64], node: usize, k: usize) -> u64
     requires { ⌜ 1 + rowWidth * node + k < length (now table) ⌝ }
     ensures { λ r. ⌜ r ≡ wordOf (now (table .entry)) node k ⌝ }
 {
-    table[1 + ROW * node + k]
+    table[1 + Row::WIDTH * node + k]
 }
 
 // Word `k` of a node as the number of a node.
@@ -60,7 +58,7 @@ pub(crate) fn kind_at(given: &[u64], node: usize) -> NodeKind
     requires { ⌜ 1 + rowWidth * node < length (now given) ⌝ }
     ensures { λ r. ⌜ kindIs r ≡ kindOf (wordOf (now (given .entry)) node 0) ⌝ }
 {
-    match NodeKind::from_code(word(given, node, 0)) {
+    match NodeKind::from_code(word(given, node, Row::CODE)) {
         CodedKind::Known(kind) => kind,
         CodedKind::Unknown => NodeKind::Input,
     }
@@ -75,14 +73,14 @@ pub(crate) fn get_constant(given: &[u64], result: &[u64], made: usize, at: usize
 {
     let n = node_count(given);
     if at < n {
-        if word(result, at, 0) == 1 {
-            return Constant::Imm(word(result, at, 2));
+        if word(result, at, Row::CODE) == NodeKind::CONST {
+            return Constant::Imm(word(result, at, Row::A));
         }
         return Constant::None;
     }
     let j = at - n;
     if j < 2 + made {
-        return Constant::Imm(result[2 + ROW * n + 2 * j + 1]);
+        return Constant::Imm(result[2 + Row::WIDTH * n + 2 * j + 1]);
     }
     Constant::None
 }
@@ -102,7 +100,7 @@ pub(crate) fn push(
     ensures { λ _. ⌜ now (counters .exit) ≡ withWalk (oneMade (walkIn (now (counters .entry)))) (now (counters .entry)) ⌝ }
 {
     let n = node_count(given);
-    let at = 2 + ROW * n + 2 * (2 + counters[0]);
+    let at = 2 + Row::WIDTH * n + 2 * (2 + counters[0]);
     result[at] = sort;
     result[at + 1] = value;
     made_one(counters);
@@ -115,10 +113,10 @@ pub(crate) fn put_row(given: &[u64], result: &mut [u64], node: usize, a: usize, 
     requires { ⌜ RowKept (now given) (now result) node ⌝ }
     ensures { λ _. ⌜ PutsRow given result node a b c ⌝ }
 {
-    let at = 1 + ROW * node;
-    result[at + 2] = wide(a);
-    result[at + 3] = wide(b);
-    result[at + 4] = wide(c);
+    let at = 1 + Row::WIDTH * node;
+    result[at + Row::A] = wide(a);
+    result[at + Row::B] = wide(b);
+    result[at + Row::C] = wide(c);
 }
 
 // The mark and the replacement of a node.

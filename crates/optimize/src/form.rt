@@ -6,6 +6,7 @@ use crate::fold::Operator;
 use crate::fold::Rule;
 use crate::fold::Single;
 use tables::node::NodeKind;
+use tables::node::Row;
 ghost use mathlib.Core.Path.{_≡_};
 ghost use Prim.Native.Nat.{_+_, _*_, _<_};
 ghost use lib.ListN.{length};
@@ -69,7 +70,7 @@ pub(crate) fn form_at(given: &[u64], node: usize) -> Form
     requires { ⌜ 1 + rowWidth * node + 3 < length (now given) ⌝ }
     ensures { λ r. ⌜ r ≡ formAt (now (given .entry)) node ⌝ }
 {
-    form_of(kind_at(given, node), word(given, node, 3))
+    form_of(kind_at(given, node), word(given, node, Row::B))
 }
 
 // Which branch of an Ite its condition chooses.

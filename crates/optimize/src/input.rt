@@ -8,6 +8,7 @@ use crate::counters::took_one;
 use crate::fold::Folded;
 use crate::settle::settle;
 use btor::node_type::NodeType;
+use tables::node::Row;
 use tables::node::fits_sort;
 use tables::refusal::Refusal;
 ghost use mathlib.Core.Path.{_≡_};
@@ -47,10 +48,10 @@ pub(crate) fn take_input(
         return settle(given, result, scratch, counters, node, Folded::Stays);
     }
     let marks: &[u8] = dumps;
-    if is_dump(marks, operand(given, node, 5)) {
+    if is_dump(marks, operand(given, node, Row::NAME)) {
         return settle(given, result, scratch, counters, node, Folded::Stays);
     }
-    let sort = word(given, node, 1);
+    let sort = word(given, node, Row::SORT);
     if sort == NodeType::MEMORY {
         refuse(Refusal::MemoryInput(node), counters);
         return node;

@@ -2,7 +2,9 @@
 use crate::buffers::number;
 use crate::call_words::CallWords;
 use crate::call_words::replies_in;
+use crate::smt_solver::ALWAYS_FALSE;
 use crate::smt_solver::Asked;
+use crate::smt_solver::SEVERAL;
 use crate::smt_solver::ask_at;
 use crate::walk::Walk;
 use tables::refusal::Refusal;
@@ -79,10 +81,10 @@ fn last_question(
     }
     if kept == 1 {
         let bad = number(scratch[list]);
-        let asked = ask_in(given, replies, scratch, at, walk, 2, bad);
+        let asked = ask_in(given, replies, scratch, at, walk, ALWAYS_FALSE, bad);
         return verdict_of(asked);
     }
-    let asked = ask_in(given, replies, scratch, at, walk, 5, kept);
+    let asked = ask_in(given, replies, scratch, at, walk, SEVERAL, kept);
     verdict_of(asked)
 }
 

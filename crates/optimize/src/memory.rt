@@ -4,6 +4,8 @@ use crate::buffers::number;
 use crate::buffers::word;
 use crate::fold::Constant;
 use btor::reading::Reading;
+use tables::node::NodeKind;
+use tables::node::Row;
 ghost use mathlib.Core.Path.{_≡_};
 ghost use Prim.Native.Nat.{_≤_};
 ghost use Rattle.btor.specs.Readings.{readingIs};
@@ -54,18 +56,19 @@ fn look_at(
     if n <= at {
         return Look::End;
     }
-    if word(result, at, 0) != 3 {
+    if word(result, at, Row::CODE) != NodeKind::WRITE {
         return Look::End;
     }
-    let next = number(word(result, at, 2));
-    let Constant::Imm(imm) = get_constant(given, result, made, number(word(result, at, 3))) else {
+    let next = number(word(result, at, Row::A));
+    let Constant::Imm(imm) = get_constant(given, result, made, number(word(result, at, Row::B)))
+    else {
         return match how {
             Reading::Rust => Look::Unsettled(next),
             Reading::Standard => Look::Stop,
         };
     };
     if imm == address {
-        Look::Hit(number(word(result, at, 4)))
+        Look::Hit(number(word(result, at, Row::C)))
     } else {
         Look::Settled(next)
     }

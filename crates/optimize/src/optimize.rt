@@ -5,16 +5,19 @@ use crate::result::clear;
 use crate::run::run;
 use crate::walk::Optimized;
 use tables::judge::Verdict;
-use tables::judge::judge;
+use tables::limits::Limits;
 use tables::names::mark_memory_dumps;
 use tables::sections::Part;
 use tables::sections::Sections;
 ghost use mathlib.Core.Path.{_≡_};
+ghost use Prim.Native.Nat.{ℕ};
 ghost use lib.ListN.{length, replicate};
 ghost use Rattle.rules.specs.Limits.{house, modeOf};
 ghost use Rattle.rules.specs.Call.{left, optimizeModelImpl, optimizeModelWithSolver, optimizeModelWithInput};
 ghost use Rattle.tables.specs.SectionAnswers.{Inside};
-ghost use Rattle.tables.specs.Judging.{callWith};
+ghost use Rattle.tables.specs.Judging.{callWith, IsCut, judgedCount, verdictOf};
+ghost use Rattle.tables.specs.declared.judge.Verdict.{Verdict};
+ghost use Rattle.tables.specs.declared.sections.Sections.{Sections};
 ghost use Rattle.optimize.specs.Runs.{Runs};
 ghost use Rattle.optimize.specs.Entries.{entryIs, answered, inputsEnd, repliesEnd, resultLeft, InOrder, RunnableParts, modelParts, callLent};
 
@@ -45,6 +48,21 @@ fn replies_end(entry: Entry, replies: Part) -> usize
         Entry::Impl => replies.end,
         Entry::WithSolver => replies.end,
     }
+}
+
+// A call judged by the house's limits.
+fn judge(mode: u64, words: &[u64], names: &[u8], result_room: usize, scratch_room: usize) -> Verdict
+    ensures { λ r. ⌜ verdictOf (now (words .entry)) r ≡ judgedCount house mode (now (words .entry)) (now (names .entry)) «result_room» «scratch_room» ⌝ }
+    ensures { λ r. ⌜ ((s : Sections) (k : ℕ) → r ≡ Verdict.Accepted s k → IsCut house (now (words .entry)) s) ⌝ }
+{
+    tables::judge::judge(
+        mode,
+        words,
+        names,
+        result_room,
+        scratch_room,
+        Limits::house(),
+    )
 }
 
 // Scratch is 0 after each call, and result after a refusal.

@@ -1,7 +1,7 @@
 // The two lent buffers before and after the walk: setting up, writing the result's sections, clearing.
-use crate::buffers::ROW;
 use crate::walk::Walk;
 use btor::node_type::NodeType;
+use tables::node::Row;
 ghost use mathlib.Core.Path.{_≡_};
 ghost use mathlib.Core.List.{[], _∷_, _++_};
 ghost use Prim.Native.Nat.{_+_, _-_, _*_, _<_, _≤_};
@@ -68,8 +68,8 @@ pub(crate) fn set_up(given: &[u64], result: &mut [u64], scratch: &mut [u64])
     ensures { λ _. ⌜ SetsUp given result scratch ⌝ }
 {
     let n = given[0] as usize;
-    copy_words(given, 0, 1 + ROW * n, result, 0);
-    let at = 2 + ROW * n;
+    copy_words(given, 0, 1 + Row::WIDTH * n, result, 0);
+    let at = 2 + Row::WIDTH * n;
     result[at] = NodeType::BIT;
     result[at + 1] = 0;
     result[at + 2] = NodeType::BIT;
@@ -162,8 +162,8 @@ fn write_counts(n: usize, made: usize, result: &mut [u64]) -> usize
     ensures { λ r. ⌜ r ≡ constantsAt n + 2 * (2 + made) ⌝ }
 {
     result[0] = n as u64;
-    result[1 + ROW * n] = (2 + made) as u64;
-    2 + ROW * n + 2 * (2 + made)
+    result[1 + Row::WIDTH * n] = (2 + made) as u64;
+    2 + Row::WIDTH * n + 2 * (2 + made)
 }
 
 // Puts the replacements at a place, after their count.

@@ -6,6 +6,8 @@ use crate::buffers::wide;
 use crate::buffers::word;
 use crate::fold::Constant;
 use crate::lists::put_entry;
+use tables::node::NodeKind;
+use tables::node::Row;
 ghost use Prim.Native.Nat.{_+_, _*_, _<_, _≤_};
 ghost use mathlib.Core.Path.{_≡_};
 ghost use mathlib.Core.Bool.{not};
@@ -25,8 +27,8 @@ fn given_constant(given: &[u64], node: usize) -> Constant
     requires { ⌜ (node < countOf (now given)) × Table (now given) ⌝ }
     ensures { λ r. ⌜ constantIs r ≡ constOf (nodeAt (tableOf (now (given .entry)))) node ⌝ }
 {
-    if word(given, node, 0) == 1 {
-        return Constant::Imm(word(given, node, 2));
+    if word(given, node, Row::CODE) == NodeKind::CONST {
+        return Constant::Imm(word(given, node, Row::A));
     }
     Constant::None
 }
@@ -36,12 +38,12 @@ fn should_retain_sequential(given: &[u64], sequential: usize) -> bool
     requires { ⌜ Table (now given) × Sequential (tableOf (now given)) sequential ⌝ }
     ensures { λ r. ⌜ r ≡ not (trivial (tableOf (now (given .entry))) (nodeAt (tableOf (now (given .entry))) sequential)) ⌝ }
 {
-    let state = operand(given, sequential, 2);
-    let next = operand(given, sequential, 3);
+    let state = operand(given, sequential, Row::A);
+    let next = operand(given, sequential, Row::B);
     if state == next {
         return false;
     }
-    let Constant::Imm(init_imm) = given_constant(given, operand(given, state, 2)) else {
+    let Constant::Imm(init_imm) = given_constant(given, operand(given, state, Row::A)) else {
         return true;
     };
     let Constant::Imm(next_imm) = given_constant(given, next) else {
@@ -67,8 +69,8 @@ fn judge_sequential(
         put_entry(scratch, at + kept, wide(sequential));
         return kept + 1;
     }
-    let state = operand(given, sequential, 2);
-    put_mark(given, scratch, state, 2, operand(given, state, 2));
+    let state = operand(given, sequential, Row::A);
+    put_mark(given, scratch, state, 2, operand(given, state, Row::A));
     kept
 }
 

@@ -27,8 +27,8 @@ use crate::solve::solve_boolean_binary;
 use crate::solve::solve_ite_bit;
 use crate::solve::solve_ite_word;
 use btor::node_type::NodeType;
+use tables::node::Row;
 ghost use Prim.Native.Nat.{_<_};
-ghost use mathlib.Core.Path.{_≡_};
 ghost use lib.ListN.{getD};
 ghost use Rattle.rules.specs.Visit.{settle, finish};
 ghost use Rattle.optimize.specs.Bounds.{countOf, CountedAt, HasBoth};
@@ -140,7 +140,7 @@ pub(crate) fn settle_const(
     ensures { λ r. ⌜ Settles given result scratch counters r (λ g ways σ. constOut g ways σ node) ⌝ }
 {
     let n = node_count(given);
-    let fold = fold_const(n, word(given, node, 1), word(given, node, 2));
+    let fold = fold_const(n, word(given, node, Row::SORT), word(given, node, Row::A));
     settle(given, result, scratch, counters, node, fold)
 }
 
@@ -159,7 +159,7 @@ pub(crate) fn after_one(
     ensures { λ r. ⌜ Settles given result scratch counters r (λ g ways σ. afterOne g ways rule σ node x) ⌝ }
 {
     let n = node_count(given);
-    let sort = word(given, node, 1);
+    let sort = word(given, node, Row::SORT);
     let value = get_constant(given, result, counters[0], x);
     let fold = fold_one(rule, n, sort, value);
     settle(given, result, scratch, counters, node, fold)
@@ -217,7 +217,7 @@ pub(crate) fn after_two(
 {
     let how = reading_in(call);
     let n = node_count(given);
-    let sort = word(given, node, 1);
+    let sort = word(given, node, Row::SORT);
     let left = get_constant(given, result, counters[0], x);
     let right = get_constant(given, result, counters[0], y);
     let fold = fold_two(how, rule, n, sort, x, y, left, right);
@@ -244,7 +244,7 @@ pub(crate) fn after_ite(
     if !minimises(call) {
         return settle(given, result, scratch, counters, node, Folded::Stays);
     }
-    let sort = word(given, node, 1);
+    let sort = word(given, node, Row::SORT);
     if sort == NodeType::BIT {
         return solve_ite_bit(
             given,

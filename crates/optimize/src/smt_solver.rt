@@ -23,6 +23,17 @@ ghost use Rattle.optimize.specs.Counters.{Going};
 ghost use Rattle.optimize.specs.Process.{askedOf, askedBy, isStays, thenAsk};
 ghost use Rattle.optimize.specs.Clauses.{Asks, AsksBy, AtMost, Solves, SolvesThen};
 
+// The kinds of questions.
+const ALWAYS_TRUE: u64 = 1;
+
+pub(crate) const ALWAYS_FALSE: u64 = 2;
+
+pub(crate) const EQUAL: u64 = 3;
+
+pub(crate) const SATISFIABLE: u64 = 4;
+
+pub(crate) const SEVERAL: u64 = 5;
+
 // The reply that a question took.
 pub(crate) enum Asked {
     Reply(Walk, u64),
@@ -52,7 +63,7 @@ fn used_then(replies: &[u64], used: usize) -> usize
 fn most_of(kind: u64) -> u64
     ensures { λ r. ⌜ (r ≡ most kind) × (0 < r) ⌝ }
 {
-    if kind == 4 { 2 } else { 1 }
+    if kind == SATISFIABLE { 2 } else { 1 }
 }
 
 pub(crate) fn is_stays(fold: Folded) -> bool
@@ -198,7 +209,7 @@ pub(crate) fn ask_bit(
         replies,
         scratch,
         counters,
-        1,
+        ALWAYS_TRUE,
         node,
         0,
         Folded::Swap(n + 1),
@@ -209,7 +220,7 @@ pub(crate) fn ask_bit(
         scratch,
         counters,
         first,
-        2,
+        ALWAYS_FALSE,
         node,
         0,
         Folded::Swap(n),

@@ -3,6 +3,7 @@
 use crate::counters::Counters;
 use crate::fold::Folded;
 use crate::settle::settle_solved;
+use crate::smt_solver::EQUAL;
 use crate::smt_solver::ask_bit;
 use crate::smt_solver::ask_or;
 use crate::smt_solver::then_ask;
@@ -51,7 +52,7 @@ pub(crate) fn solve_ite_bit(
         scratch,
         counters,
         bit,
-        3,
+        EQUAL,
         node,
         x,
         Folded::Swap(x),
@@ -79,7 +80,7 @@ pub(crate) fn solve_ite_word(
         replies,
         scratch,
         counters,
-        3,
+        EQUAL,
         node,
         y,
         Folded::Swap(y),
@@ -90,7 +91,7 @@ pub(crate) fn solve_ite_word(
         scratch,
         counters,
         left,
-        3,
+        EQUAL,
         node,
         z,
         Folded::Swap(z),

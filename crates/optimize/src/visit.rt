@@ -28,6 +28,7 @@ use crate::settle::settle;
 use crate::settle::settle_const;
 use crate::walk::Visited;
 use crate::walk::Walk;
+use tables::node::Row;
 ghost use Prim.Native.Nat.{_+_, _<_};
 ghost use mathlib.Core.Path.{_≡_};
 ghost use Rattle.rules.specs.Walk.{fresh};
@@ -128,7 +129,7 @@ fn process_one(
         dumps,
         call,
         counters,
-        operand(given, node, 2),
+        operand(given, node, Row::A),
     );
     if is_refused(counters) {
         return x;
@@ -138,8 +139,8 @@ fn process_one(
         result,
         node,
         x,
-        operand(given, node, 3),
-        operand(given, node, 4),
+        operand(given, node, Row::B),
+        operand(given, node, Row::C),
     );
     after_one(given, result, scratch, counters, node, rule, x)
 }
@@ -170,7 +171,7 @@ fn process_two(
         dumps,
         call,
         counters,
-        operand(given, node, 2),
+        operand(given, node, Row::A),
     );
     if is_refused(counters) {
         return x;
@@ -182,12 +183,12 @@ fn process_two(
         dumps,
         call,
         counters,
-        operand(given, node, 3),
+        operand(given, node, Row::B),
     );
     if is_refused(counters) {
         return y;
     }
-    put_row(given, result, node, x, y, operand(given, node, 4));
+    put_row(given, result, node, x, y, operand(given, node, Row::C));
     after_two(given, call, result, scratch, counters, node, rule, x, y)
 }
 
@@ -217,7 +218,7 @@ fn process_read(
         dumps,
         call,
         counters,
-        operand(given, node, 2),
+        operand(given, node, Row::A),
     );
     if is_refused(counters) {
         return x;
@@ -229,12 +230,12 @@ fn process_read(
         dumps,
         call,
         counters,
-        operand(given, node, 3),
+        operand(given, node, Row::B),
     );
     if is_refused(counters) {
         return y;
     }
-    put_row(given, result, node, x, y, operand(given, node, 4));
+    put_row(given, result, node, x, y, operand(given, node, Row::C));
     read(given, call, result, scratch, counters, node, x, y)
 }
 
@@ -264,7 +265,7 @@ fn process_three(
         dumps,
         call,
         counters,
-        operand(given, node, 2),
+        operand(given, node, Row::A),
     );
     if is_refused(counters) {
         return x;
@@ -276,7 +277,7 @@ fn process_three(
         dumps,
         call,
         counters,
-        operand(given, node, 3),
+        operand(given, node, Row::B),
     );
     if is_refused(counters) {
         return y;
@@ -288,7 +289,7 @@ fn process_three(
         dumps,
         call,
         counters,
-        operand(given, node, 4),
+        operand(given, node, Row::C),
     );
     if is_refused(counters) {
         return z;
@@ -323,7 +324,7 @@ fn process_ite(
         dumps,
         call,
         counters,
-        operand(given, node, 2),
+        operand(given, node, Row::A),
     );
     if is_refused(counters) {
         return x;
@@ -361,12 +362,12 @@ fn process_left(
         dumps,
         call,
         counters,
-        operand(given, node, 3),
+        operand(given, node, Row::B),
     );
     if is_refused(counters) {
         return y;
     }
-    put_row(given, result, node, x, y, operand(given, node, 4));
+    put_row(given, result, node, x, y, operand(given, node, Row::C));
     settle(given, result, scratch, counters, node, Folded::Swap(y))
 }
 
@@ -395,12 +396,12 @@ fn process_right(
         dumps,
         call,
         counters,
-        operand(given, node, 4),
+        operand(given, node, Row::C),
     );
     if is_refused(counters) {
         return z;
     }
-    put_row(given, result, node, x, operand(given, node, 3), z);
+    put_row(given, result, node, x, operand(given, node, Row::B), z);
     settle(given, result, scratch, counters, node, Folded::Swap(z))
 }
 
@@ -430,7 +431,7 @@ fn process_both(
         dumps,
         call,
         counters,
-        operand(given, node, 3),
+        operand(given, node, Row::B),
     );
     if is_refused(counters) {
         return y;
@@ -442,7 +443,7 @@ fn process_both(
         dumps,
         call,
         counters,
-        operand(given, node, 4),
+        operand(given, node, Row::C),
     );
     if is_refused(counters) {
         return z;
@@ -469,7 +470,7 @@ fn process_next(
     requires { ⌜ Going (now counters) ⌝ }
     ensures { λ r. ⌜ Walks given dumps call result scratch counters r node (λ g ways vis σ. stepOf g ways vis σ node) ⌝ }
 {
-    let state = operand(given, node, 2);
+    let state = operand(given, node, Row::A);
     let x = visit(given, result, scratch, dumps, call, counters, state);
     if is_refused(counters) {
         return x;
@@ -501,7 +502,7 @@ fn process_value(
         dumps,
         call,
         counters,
-        operand(given, node, 3),
+        operand(given, node, Row::B),
     );
     if is_refused(counters) {
         return y;
@@ -510,9 +511,9 @@ fn process_value(
         given,
         result,
         node,
-        operand(given, node, 2),
+        operand(given, node, Row::A),
         y,
-        operand(given, node, 4),
+        operand(given, node, Row::C),
     );
     settle(given, result, scratch, counters, node, Folded::Stays)
 }

@@ -16,7 +16,7 @@ enum-known-start : tie.Need-enum-known-start
 enum-known-start c = search needs
 
 add-result : tie.Need-add-result
-add-result c = omega (arith, read-inside _ _ _ _ (sym (c .before .before .before .read-name .ensures) ∙ ap readOf (c .before .start .given .1)), c .before .before .before .before .before .good .0)
+add-result c = omega (arith, read-inside _ _ _ _ _ (sym (c .before .before .before .read-name .ensures) ∙ ap readOf (c .before .start .given .1)), c .before .before .before .before .before .good .0)
 
 enum-told : tie.Need-enum-told
 enum-told c = search needs

@@ -20,7 +20,7 @@ enum-known-start c = search needs
 -- the name that was read lies within the bytes
 inside : (c : tie.After-known-told)
     → c .before .start .given .0 .0 + c .before .start .given .0 .1 .0 ≤ length (c .before .before .before .before .before .args .names .now)
-inside c = read-inside _ _ _ _ (sym (c .before .before .before .read-name .ensures) ∙ ap readOf (c .before .start .given .1))
+inside c = read-inside _ _ _ _ _ (sym (c .before .before .before .read-name .ensures) ∙ ap readOf (c .before .start .given .1))
 
 add-result : tie.Need-add-result
 add-result c = omega (arith, inside c, c .before .before .before .before .before .good .0)
