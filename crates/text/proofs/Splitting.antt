@@ -1,7 +1,5 @@
--- Splitting, one case each: a section at a place of the numbers, the six one after the other, the lengths of the names, and their bytes.
--- By the rules' laws of one section and of one name at a place; a name's values are the numbers after its length.
---     section-*          one section at a place
---     six-is             the numbers after the six sections, cut one after the other
+-- Splitting, one case each: the lengths of the names, and their bytes.
+-- By the rules' laws of one name at a place; a name's values are the numbers after its length.
 --     lengths-*          a loop over the lengths of the names
 --     bytes-*            a loop over byte values
 --     after-*            the names after their count
@@ -12,7 +10,6 @@ use mathlib.Core.Bool.{Bool, true, false, _&&_}
 use mathlib.Core.Option.{none, some}
 use mathlib.Core.List.{List, [], _∷_, _++_}
 use native.Mathlib.Omega.{arith}
-use native.Mathlib.Nat.{mul-comm, div-lt-iff-lt-mul, le-div-iff-mul-le}
 use native.Mathlib.Numerals.{add-one}
 use lib.ListN.{length, getD, take, drop, set, length-drop, drop-of-length-le, take-append-drop}
 use lib.Seq.{drop-cons, take-suc, take-suc-set, take-all, take-nil, take-at, length-take-le, drop-set-lt, drop-drop}
@@ -20,12 +17,9 @@ use lib.Dec.{ltb}
 use borrow.Author.Tests.{ltb-true, lt-ltb, le-ltb}
 use Rattle.rules.specs.Refusal.{Refusal, Out, refused, done, refuse, _>>=_}
 use Rattle.rules.specs.Lists.{All}
-use Rattle.rules.specs.Limits.{Limits, house}
-use Rattle.rules.specs.Table.{rowWidth}
-use Rattle.rules.specs.Sections.{Sections, Part, cutSection, cutSix}
+use Rattle.rules.specs.Limits.{house}
 use Rattle.rules.specs.Names.{countedNames, nameBytes, sizedNames}
 use Rattle.rules.specs.Text.{allBytes, allNameBytes, judgeBytes, namesInNumbers}
-use Rattle.rules.proofs.Sections.{nothing-at, over-at, short-at, whole-at}
 use Rattle.rules.proofs.Names.{names-over, names-within, countedNames-done}
 use Rattle.rules.proofs.NameWalk as walk
 use Rattle.rules.proofs.NameWalk.{fault, faultFrom}
@@ -33,69 +27,7 @@ use Rattle.text.specs.declared.split.Judged.{Judged}
 use Rattle.text.specs.declared.split.Names.{Names}
 use Rattle.rules.proofs.Base.{and-both}
 use Rattle.text.specs.Front.{onFront}
-use Rattle.text.specs.Splitting.{cutAfter, restOf, Judges, cutAll, counted, bytesAfter, Lent, bytesIn}
-
--- ---- one section at a place
-module _ (section limit width : ℕ) (ws : List ℕ) (at : ℕ) where
-  pub section-missing : length ws ≤ at → cutAfter section limit width (done (drop at ws)) ≡ refuse 1 section 0
-  section-missing h = ap (λ o. o >>= λ p. done (p .rest)) (nothing-at section limit width ws at h)
-
-  pub section-over : at < length ws → limit < getD ws at 0 → cutAfter section limit width (done (drop at ws)) ≡ refuse 2 section 0
-  section-over i h = ap (λ o. o >>= λ p. done (p .rest)) (over-at section limit width ws at i h)
-
-  module _ (positive : 0 < width) (inside : at < length ws) (within : getD ws at 0 ≤ limit) where
-    pub section-short : (length ws - at - 1) / width < getD ws at 0 → cutAfter section limit width (done (drop at ws)) ≡ refuse 1 section 0
-    section-short h =
-        let m : length ws - at - 1 < getD ws at 0 * width = div-lt-iff-lt-mul positive .0 h in
-        ap (λ o. o >>= λ p. done (p .rest)) (short-at section limit width ws at inside within (omega (arith, mul-comm width (getD ws at 0))))
-
-    pub section-inside : getD ws at 0 ≤ (length ws - at - 1) / width → at + 1 + width * getD ws at 0 ≤ length ws
-    section-inside h =
-        let m : getD ws at 0 * width ≤ length ws - at - 1 = le-div-iff-mul-le positive .0 h in
-        omega (arith, mul-comm width (getD ws at 0))
-
-    pub section-whole : getD ws at 0 ≤ (length ws - at - 1) / width
-        → cutAfter section limit width (done (drop at ws)) ≡ done (drop (at + 1 + width * getD ws at 0) ws)
-    section-whole h = ap (λ o. o >>= λ p. done (p .rest)) (whole-at section limit width ws at inside within (section-inside h))
-
--- ---- the six sections
--- one section off the front of a chain: R is what follows, and keeps a refusal
-bind-rest : (o : Out Part) (K : Part → Out (Sections × List ℕ)) (R : Out (List ℕ) → Out (List ℕ)) → ((r : Refusal) → R (refused r) ≡ refused r)
-    → ((p : Part) → (K p >>= λ q. done (q .1)) ≡ R (done (p .rest))) → ((o >>= K) >>= λ q. done (q .1)) ≡ R (o >>= λ p. done (p .rest))
-bind-rest (refused r) K R s h = sym (s r)
-bind-rest (done p) K R s h = h p
-
-module _ (limits : Limits) where
-  abbrev from6 : Out (List ℕ) → Out (List ℕ)
-  from6 o = cutAfter 6 (limits .replies) 1 o
-
-  abbrev from5 : Out (List ℕ) → Out (List ℕ)
-  from5 o = from6 (cutAfter 5 (limits .inputs) 1 o)
-
-  abbrev from4 : Out (List ℕ) → Out (List ℕ)
-  from4 o = from5 (cutAfter 4 (limits .entries) 1 o)
-
-  abbrev from3 : Out (List ℕ) → Out (List ℕ)
-  from3 o = from4 (cutAfter 3 (limits .entries) 1 o)
-
-  abbrev from2 : Out (List ℕ) → Out (List ℕ)
-  from2 o = from3 (cutAfter 2 (limits .entries) 1 o)
-
-  pub six-is : (ws : List ℕ) → restOf limits ws ≡ from2 (cutAfter 1 (limits .nodes) rowWidth (done ws))
-  unfolding cutSix
-  six-is ws =
-      bind-rest (cutSection 1 (limits .nodes) rowWidth ws) _ from2 (λ r. refl) λ p₁.
-      bind-rest (cutSection 2 (limits .entries) 1 (p₁ .rest)) _ from3 (λ r. refl) λ p₂.
-      bind-rest (cutSection 3 (limits .entries) 1 (p₂ .rest)) _ from4 (λ r. refl) λ p₃.
-      bind-rest (cutSection 4 (limits .entries) 1 (p₃ .rest)) _ from5 (λ r. refl) λ p₄.
-      bind-rest (cutSection 5 (limits .inputs) 1 (p₄ .rest)) _ from6 (λ r. refl) λ p₅.
-      bind-rest (cutSection 6 (limits .replies) 1 (p₅ .rest)) _ (λ o. o) (λ r. refl) λ p₆. refl
-
--- each cut from where the one before ends
-pub six-chain : (ws : List ℕ) (o₁ o₂ o₃ o₄ o₅ o₆ : Out (List ℕ)) → o₁ ≡ cutAfter 1 4096 6 (done ws) → o₂ ≡ cutAfter 2 1024 1 o₁ → o₃ ≡ cutAfter 3 1024 1 o₂
-    → o₄ ≡ cutAfter 4 1024 1 o₃ → o₅ ≡ cutAfter 5 4096 1 o₄ → o₆ ≡ cutAfter 6 16384 1 o₅ → o₆ ≡ restOf house ws
-six-chain ws o₁ o₂ o₃ o₄ o₅ o₆ e₁ e₂ e₃ e₄ e₅ e₆ =
-    e₆ ∙ ap (from6 house) e₅ ∙ ap (from5 house) e₄ ∙ ap (from4 house) e₃ ∙ ap (from3 house) e₂ ∙ ap (from2 house) e₁ ∙ sym (six-is house ws)
+use Rattle.text.specs.Splitting.{Judges, cutAll, counted, bytesAfter, Lent, bytesIn}
 
 -- ---- the lengths of the names: so many are left, from a place on
 fault-none : {A : Type 0} (o : Out A) → fault o ≡ none → (x : A) × (o ≡ done x)

@@ -6,34 +6,29 @@ use Prim.Native.Nat.{ℕ, _/_, _%_, _≤_}
 use mathlib.Core.Path.{_≡_}
 use mathlib.Core.List.{List, _∷_}
 use lib.ListN.{length, take, drop}
-use Rattle.rules.specs.Refusal.{Out, done, refuse, _>>=_}
+use Rattle.rules.specs.Refusal.{Out, refused, done, refuse, _>>=_}
 use Rattle.rules.specs.Limits.{Limits}
-use Rattle.rules.specs.Sections.{cutSection, cutSix, noneLeft}
+use Rattle.rules.specs.Sections.{cutSix, noneLeft}
 use Rattle.rules.specs.Names.{cutNames, countedNames, nameBytes}
 use Rattle.rules.specs.Text.{judgeBytes, namesInNumbers}
+use Rattle.tables.specs.Refusals.{refusalOf}
 use Rattle.text.specs.declared.split.End.{End}
-use Rattle.text.specs.declared.split.End.the-variants.{At, Over, Short}
+use Rattle.text.specs.declared.split.End.the-variants.{At, Refused}
 use Rattle.text.specs.declared.split.Judged.{Judged}
 use Rattle.text.specs.declared.split.Judged.the-variants.{Whole, Over as JudgedOver, Short as JudgedShort}
 use Rattle.text.specs.declared.split.Names.{Names}
 use Rattle.text.specs.declared.split.Names.the-variants.{Bytes, NamesOver, NamesShort}
 
 -- ---- sections 1 to 6
--- what follows the place, or the refusal: 2 where a section's count is over its limit, 1 where the section is short, position 0
+-- what follows the place, or the refusal
 abbrev pub endOf : End → List ℕ → Out (List ℕ)
 endOf (At end) ws = done (drop end ws)
-endOf (Over section) ws = refuse 2 section 0
-endOf (Short section) ws = refuse 1 section 0
+endOf (Refused r) ws = refused (refusalOf r)
 
 -- a place is one of the words, or their end
 abbrev pub Inside : End → List ℕ → Type 0
 Inside (At end) ws = end ≤ length ws
-Inside (Over section) ws = Unit
-Inside (Short section) ws = Unit
-
--- one section more
-abbrev pub cutAfter : ℕ → ℕ → ℕ → Out (List ℕ) → Out (List ℕ)
-cutAfter section limit width rest = rest >>= λ ws. cutSection section limit width ws >>= λ p. done (p .rest)
+Inside (Refused r) ws = Unit
 
 -- the numbers after the six sections
 abbrev pub restOf : Limits → List ℕ → Out (List ℕ)

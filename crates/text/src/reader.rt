@@ -1,6 +1,7 @@
 // Decimal numbers out of bytes that arrive in chunks: a state by value, and the numbers in a lent array of 4,096. Numbers may have any
 // count of leading zeros, blanks any length. The first refusal stays, whatever follows. The numbers read before it stay at the array's front,
 // and every other word of the array is as it was.
+use tables::limits::HIGHEST_MODE;
 ghost use mathlib.Core.Path.{_≡_};
 ghost use mathlib.Core.List.{List};
 ghost use mathlib.Core.Option.{none, some};
@@ -106,7 +107,7 @@ fn put_at(n: usize, x: u64, numbers: &mut [u64; 4096]) -> Numbers
         return Numbers::TooMany;
     }
     if n == 0 {
-        if x > 7 {
+        if x > HIGHEST_MODE {
             return Numbers::NoNumber(0);
         }
     }

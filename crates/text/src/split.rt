@@ -1,5 +1,11 @@
 // From the numbers of a text to a call: where sections 1 to 6 end in the numbers after the mode, and the names, which follow them as
 // numbers, as bytes at the front of a lent array, whose other bytes stay; after a refusal all of it is as it was.
+use tables::limits::Limits;
+use tables::limits::NAMES;
+use tables::limits::NAME_LENGTH;
+use tables::refusal::Refusal;
+use tables::sections::Cut;
+use tables::sections::cut_six;
 ghost use mathlib.Core.Path.{_≡_};
 ghost use mathlib.Core.Bool.{true};
 ghost use Prim.Native.Nat.{_+_, _-_, _<_, _≤_};
@@ -8,15 +14,12 @@ ghost use Rattle.rules.specs.Refusal.{done};
 ghost use Rattle.rules.specs.Limits.{house};
 ghost use Rattle.rules.specs.Text.{allBytes};
 ghost use Rattle.text.specs.Front.{onFront};
-ghost use Rattle.text.specs.Splitting.{endOf, Inside, cutAfter, restOf, Judges, cutAll, counted, bytesAfter, namesOf, Lent, bytesIn};
+ghost use Rattle.text.specs.Splitting.{endOf, Inside, restOf, Judges, cutAll, counted, bytesAfter, namesOf, Lent, bytesIn};
 
-// Where a section ends, or which section is refused.
+// Where the sections end, or why one is refused.
 pub enum End {
     At(usize),
-    // Refusal 2, of this section, position 0.
-    Over(u64),
-    // Refusal 1, of this section, position 0.
-    Short(u64),
+    Refused(Refusal),
 }
 
 // The names as bytes, or the refusal.
@@ -28,47 +31,14 @@ pub enum Names {
     NamesShort,
 }
 
-// One section from a place on: its count within the limit, then so many words for each that is counted.
-fn section_at(words: &[u64], at: usize, section: u64, limit: u64, width: u64) -> End
-    requires { ⌜ 0 < width ⌝ }
-    ensures { λ r. ⌜ (endOf r (now (words .entry)) ≡ cutAfter section limit width (endOf (End.At at) (now (words .entry)))) × Inside r (now (words .entry)) ⌝ }
-{
-    if at >= words.len() {
-        return End::Short(section);
-    }
-    let count = words[at];
-    if count > limit {
-        return End::Over(section);
-    }
-    let most = (words.len() - at - 1) as u64;
-    if count > most / width {
-        return End::Short(section);
-    }
-    End::At(at + 1 + (width * count) as usize)
-}
-
-// One section after what is cut already.
-fn cut_section(words: &[u64], from: End, section: u64, limit: u64, width: u64) -> End
-    requires { ⌜ 0 < width ⌝ }
-    ensures { λ r. ⌜ (endOf r (now (words .entry)) ≡ cutAfter section limit width (endOf from (now (words .entry)))) × Inside r (now (words .entry)) ⌝ }
-{
-    match from {
-        End::At(at) => section_at(words, at, section, limit, width),
-        End::Over(earlier) => End::Over(earlier),
-        End::Short(earlier) => End::Short(earlier),
-    }
-}
-
 // Where sections 1 to 6 end in the numbers after the mode.
 pub fn sections_end(words: &[u64]) -> End
     ensures { λ r. ⌜ (endOf r (now (words .entry)) ≡ restOf house (now (words .entry))) × Inside r (now (words .entry)) ⌝ }
 {
-    let nodes = cut_section(words, End::At(0), 1, 4096, 6);
-    let sequentials = cut_section(words, nodes, 2, 1024, 1);
-    let initial = cut_section(words, sequentials, 3, 1024, 1);
-    let later = cut_section(words, initial, 4, 1024, 1);
-    let inputs = cut_section(words, later, 5, 4096, 1);
-    cut_section(words, inputs, 6, 16384, 1)
+    match cut_six(words, Limits::house()) {
+        Cut::Whole(sections) => End::At(sections.replies.end),
+        Cut::Refused(why) => End::Refused(why),
+    }
 }
 
 // Whether the names after their count are whole, and nothing follows them.
@@ -78,7 +48,7 @@ enum Judged {
     Short,
 }
 
-// So many names: a length of at most 64 each, then as many byte values.
+// So many names: a length within its limit each, then as many byte values.
 fn judge_lengths(values: &[u64], count: u64) -> Judged
     ensures { λ r. ⌜ Judges r (cutAll house count (now (values .entry))) ⌝ }
 {
@@ -89,7 +59,7 @@ fn judge_lengths(values: &[u64], count: u64) -> Judged
             return Judged::Short;
         }
         let size = values[at];
-        if size > 64 {
+        if size > NAME_LENGTH as u64 {
             return Judged::Over;
         }
         if size > (values.len() - at - 1) as u64 {
@@ -120,7 +90,7 @@ fn all_bytes(values: &[u64]) -> bool
 
 // The names bytes at the front of the buffer: the count in two bytes, low byte first, then the values.
 fn put_names(count: u64, values: &[u64], out: &mut [u8])
-    requires { ⌜ (count ≤ 4096) × (length (now values) + 2 ≤ length (now out)) × (allBytes (now values) ≡ true) ⌝ }
+    requires { ⌜ (count ≤ house .names) × (length (now values) + 2 ≤ length (now out)) × (allBytes (now values) ≡ true) ⌝ }
     ensures { λ _. ⌜ now (out .exit) ≡ onFront (done (counted count (now (values .entry)))) (now (out .entry)) ⌝ }
 {
     out[0] = (count % 256) as u8;
@@ -138,7 +108,7 @@ fn names_after(count: u64, values: &[u64], out: &mut [u8]) -> Names
     ensures { λ r. ⌜ (namesOf r (now (out .exit)) ≡ bytesAfter house count (now (values .entry))) × Lent r (length (now (out .entry))) ⌝ }
     ensures { λ _. ⌜ now (out .exit) ≡ onFront (bytesAfter house count (now (values .entry))) (now (out .entry)) ⌝ }
 {
-    if count > 4096 {
+    if count > NAMES as u64 {
         return Names::NamesOver;
     }
     match judge_lengths(values, count) {

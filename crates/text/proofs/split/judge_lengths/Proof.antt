@@ -30,6 +30,9 @@ mul-size c = search needs
 shared-slice-read-size : tie.Need-shared-slice-read-size Inv-loop μ-loop
 shared-slice-read-size c = search needs
 
+cast-if2 : tie.Need-cast-if2 Inv-loop μ-loop
+cast-if2 c = search needs
+
 returns-2 : tie.Need-returns-2 Inv-loop μ-loop
 returns-2 c =
     let at-loop-test = c .before .before .before in
@@ -88,6 +91,7 @@ judge-lengths-spec =
     returns
     mul-size
     shared-slice-read-size
+    cast-if2
     returns-2
     sub-if3
     sub-if3-2

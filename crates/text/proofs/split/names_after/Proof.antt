@@ -13,6 +13,9 @@ use Rattle.text.proofs.Splitting.{judged-as, after-over, after-refused,
 use Rattle.text.proofs.split.names_after.Statement.{statement}
 use Rattle.text.proofs.split.names_after.Tie as tie
 
+cast-if1 : tie.Need-cast-if1
+cast-if1 c = search needs
+
 returns : tie.Need-returns
 returns c =
     let a = c .before .before .before .args in
@@ -40,8 +43,8 @@ put-names-requires c κs =
     let start = at-if1 .before .before .before in
     (at-if1 .if1 .left, start .pre, sym (c .before .before .all-bytes .ensures) ∙ c .before .if2 .taken)
 
-add-t12 : tie.Need-add-t12
-add-t12 c = search needs
+add-t13 : tie.Need-add-t13
+add-t13 c = search needs
 
 same-length : tie.Need-same-length
 same-length c = search needs
@@ -90,6 +93,7 @@ pub names-after-spec : {M : Type 1} → statement M
 names-after-spec =
     tie.close
     (tie.spec
+    cast-if1
     returns
     judge-lengths-requires
     enum-told
@@ -97,7 +101,7 @@ names-after-spec =
     enum-told-3
     all-bytes-requires
     put-names-requires
-    add-t12
+    add-t13
     same-length
     returns-2
     returns-3
