@@ -12,6 +12,9 @@ ghost use Rattle.rules.specs.Reader as rules;
 ghost use Rattle.text.specs.Front.{onFront};
 ghost use Rattle.text.specs.Reading.{tokenOf, readOf, readerOf, fedIn, endedIn, answerOf, Some};
 
+// The most numbers of a text.
+pub const NUMBERS: usize = 4096;
+
 // The token that is being read.
 pub enum Token {
     Between,
@@ -91,7 +94,7 @@ fn grown(token: Token, b: u8) -> Token
 }
 
 // How many numbers are kept at most: as many as the array has.
-fn most(numbers: &[u64; 4096]) -> usize
+fn most(numbers: &[u64; NUMBERS]) -> usize
     ensures { λ r. ⌜ (r ≡ mostNumbers) × (length (now (numbers .entry)) ≡ mostNumbers) ⌝ }
 {
     let kept: &[u64] = numbers;
@@ -99,7 +102,7 @@ fn most(numbers: &[u64; 4096]) -> usize
 }
 
 // A number at the next place of the array, which is judged first.
-fn put_at(n: usize, x: u64, numbers: &mut [u64; 4096]) -> Numbers
+fn put_at(n: usize, x: u64, numbers: &mut [u64; NUMBERS]) -> Numbers
     ensures { λ r. ⌜ readOf r (now (numbers .exit)) ≡ rules.put (some x) (take n (now (numbers .entry))) ⌝ }
     ensures { λ _. ⌜ now (numbers .exit) ≡ onFront (rules.put (some x) (take n (now (numbers .entry)))) (now (numbers .entry)) ⌝ }
 {
@@ -116,7 +119,7 @@ fn put_at(n: usize, x: u64, numbers: &mut [u64; 4096]) -> Numbers
 }
 
 // A number that ends.
-fn put_number(read: Numbers, x: u64, numbers: &mut [u64; 4096]) -> Numbers
+fn put_number(read: Numbers, x: u64, numbers: &mut [u64; NUMBERS]) -> Numbers
     ensures { λ r. ⌜ readOf r (now (numbers .exit)) ≡ rules.closed (rules.within x) (readOf read (now (numbers .entry))) ⌝ }
     ensures { λ _. ⌜ now (numbers .exit) ≡ onFront (rules.closed (rules.within x) (readOf read (now (numbers .entry)))) (now (numbers .entry)) ⌝ }
 {
@@ -128,7 +131,7 @@ fn put_number(read: Numbers, x: u64, numbers: &mut [u64; 4096]) -> Numbers
 }
 
 // A token that ends and is no number, at the next place.
-fn junk_at(place: usize, numbers: &[u64; 4096]) -> Numbers
+fn junk_at(place: usize, numbers: &[u64; NUMBERS]) -> Numbers
     ensures { λ r. ⌜ readOf r (now (numbers .entry)) ≡ rules.put none (take place (now (numbers .entry))) ⌝ }
 {
     if place >= most(numbers) {
@@ -138,7 +141,7 @@ fn junk_at(place: usize, numbers: &[u64; 4096]) -> Numbers
 }
 
 // A token that ends and is no number.
-fn put_junk(read: Numbers, numbers: &[u64; 4096]) -> Numbers
+fn put_junk(read: Numbers, numbers: &[u64; NUMBERS]) -> Numbers
     ensures { λ r. ⌜ readOf r (now (numbers .entry)) ≡ rules.closed rules.junk (readOf read (now (numbers .entry))) ⌝ }
 {
     match read {
@@ -149,7 +152,7 @@ fn put_junk(read: Numbers, numbers: &[u64; 4096]) -> Numbers
 }
 
 // A token that ends.
-fn closed(token: Token, read: Numbers, numbers: &mut [u64; 4096]) -> Numbers
+fn closed(token: Token, read: Numbers, numbers: &mut [u64; NUMBERS]) -> Numbers
     ensures { λ r. ⌜ readOf r (now (numbers .exit)) ≡ rules.closed (tokenOf token) (readOf read (now (numbers .entry))) ⌝ }
     ensures { λ _. ⌜ now (numbers .exit) ≡ onFront (rules.closed (tokenOf token) (readOf read (now (numbers .entry)))) (now (numbers .entry)) ⌝ }
 {
@@ -161,7 +164,7 @@ fn closed(token: Token, read: Numbers, numbers: &mut [u64; 4096]) -> Numbers
 }
 
 // One byte more.
-fn step(reader: Reader, b: u8, numbers: &mut [u64; 4096]) -> Reader
+fn step(reader: Reader, b: u8, numbers: &mut [u64; NUMBERS]) -> Reader
     ensures { λ r. ⌜ readerOf r (now (numbers .exit)) ≡ rules.step (readerOf reader (now (numbers .entry))) b ⌝ }
     ensures { λ _. ⌜ now (numbers .exit) ≡ onFront (rules.step (readerOf reader (now (numbers .entry))) b .read) (now (numbers .entry)) ⌝ }
 {
@@ -179,7 +182,7 @@ fn step(reader: Reader, b: u8, numbers: &mut [u64; 4096]) -> Reader
 }
 
 // A chunk of bytes more. How the bytes are cut into chunks does not matter.
-pub fn feed(reader: Reader, chunk: &[u8], numbers: &mut [u64; 4096]) -> Reader
+pub fn feed(reader: Reader, chunk: &[u8], numbers: &mut [u64; NUMBERS]) -> Reader
     ensures { λ r. ⌜ readerOf r (now (numbers .exit)) ≡ rules.feed (readerOf reader (now (numbers .entry))) (now (chunk .entry)) ⌝ }
     ensures { λ _. ⌜ now (numbers .exit) ≡ fedIn (readerOf reader (now (numbers .entry))) (now (chunk .entry)) (now (numbers .entry)) ⌝ }
 {
@@ -193,7 +196,7 @@ pub fn feed(reader: Reader, chunk: &[u8], numbers: &mut [u64; 4096]) -> Reader
 }
 
 // So many numbers are read: the mode is among them, and no more than are kept.
-fn counted(n: usize, numbers: &[u64; 4096]) -> Numbers
+fn counted(n: usize, numbers: &[u64; NUMBERS]) -> Numbers
     ensures { λ r. ⌜ (answerOf r (now (numbers .entry)) ≡ withMode (take n (now (numbers .entry)))) × Some r ⌝ }
 {
     if n == 0 {
@@ -207,7 +210,7 @@ fn counted(n: usize, numbers: &[u64; 4096]) -> Numbers
 }
 
 // At the end of the bytes: how many numbers there are, the mode among them, or the first refusal.
-pub fn finish(reader: Reader, numbers: &mut [u64; 4096]) -> Numbers
+pub fn finish(reader: Reader, numbers: &mut [u64; NUMBERS]) -> Numbers
     ensures { λ r. ⌜ (answerOf r (now (numbers .exit)) ≡ rules.readOut (readerOf reader (now (numbers .entry)))) × Some r ⌝ }
     ensures { λ _. ⌜ now (numbers .exit) ≡ endedIn (readerOf reader (now (numbers .entry))) (now (numbers .entry)) ⌝ }
 {
@@ -221,7 +224,7 @@ pub fn finish(reader: Reader, numbers: &mut [u64; 4096]) -> Numbers
 }
 
 // The whole text at once.
-pub fn read_text(bytes: &[u8], numbers: &mut [u64; 4096]) -> Numbers
+pub fn read_text(bytes: &[u8], numbers: &mut [u64; NUMBERS]) -> Numbers
     ensures { λ r. ⌜ (answerOf r (now (numbers .exit)) ≡ Text·numbers (now (bytes .entry))) × Some r ⌝ }
     ensures { λ _. ⌜ now (numbers .exit) ≡ endedIn (rules.feed rules.fresh (now (bytes .entry))) (fedIn rules.fresh (now (bytes .entry)) (now (numbers .entry))) ⌝ }
 {

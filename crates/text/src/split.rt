@@ -1,5 +1,6 @@
 // From the numbers of a text to a call: where sections 1 to 6 end in the numbers after the mode, and the names, which follow them as
 // numbers, as bytes at the front of a lent array, whose other bytes stay; after a refusal all of it is as it was.
+use crate::reader::NUMBERS;
 use tables::limits::Limits;
 use tables::limits::NAMES;
 use tables::limits::NAME_LENGTH;
@@ -15,6 +16,9 @@ ghost use Rattle.rules.specs.Limits.{house};
 ghost use Rattle.rules.specs.Text.{allBytes};
 ghost use Rattle.text.specs.Front.{onFront};
 ghost use Rattle.text.specs.Splitting.{endOf, Inside, restOf, Judges, cutAll, counted, bytesAfter, namesOf, Lent, bytesIn};
+
+// The most names bytes of a text: the count, one number, takes two of them.
+pub const BYTES: usize = 4097;
 
 // Where the sections end, or why one is refused.
 pub enum End {
@@ -138,7 +142,7 @@ fn names_in(numbers: &[u64], out: &mut [u8]) -> Names
 }
 
 // The names that stand in the numbers from one place to another, as bytes at the front of the array.
-pub fn names_bytes(numbers: &[u64; 4096], from: usize, to: usize, out: &mut [u8; 4097]) -> Names
+pub fn names_bytes(numbers: &[u64; NUMBERS], from: usize, to: usize, out: &mut [u8; BYTES]) -> Names
     ensures { λ r. ⌜ (namesOf r (now (out .exit)) ≡ bytesIn house (take (to - from) (drop from (now (numbers .entry))))) × Lent r 4097 ⌝ }
     ensures { λ _. ⌜ now (out .exit) ≡ onFront (bytesIn house (take (to - from) (drop from (now (numbers .entry))))) (now (out .entry)) ⌝ }
 {
