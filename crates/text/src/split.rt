@@ -2,8 +2,8 @@
 // numbers, as bytes at the front of a lent array, whose other bytes stay; after a refusal all of it is as it was.
 use crate::reader::NUMBERS;
 use tables::limits::Limits;
-use tables::limits::NAMES;
 use tables::limits::NAME_LENGTH;
+use tables::limits::NAMES;
 use tables::refusal::Refusal;
 use tables::sections::Cut;
 use tables::sections::cut_six;
