@@ -82,7 +82,9 @@ returns-5 c =
     let at-is-const = at-if1 .before in
     let at-get-constant = at-is-const .before in
     let start = at-get-constant .before .before .before .before .before in
-    λ h inputs dumps mode. c .by-reply .ensures h (start .args .given .now) inputs (start .args .replies .now) (start .args .result .now) _ (waysIn dumps mode (start .args .replies .now)) ∙ bad-replied h (start .args .given .now) inputs (start .args .replies .now) (start .args .result .now) (start .args .scratch .now) (start .args .walk) (waysIn dumps mode (start .args .replies .now)) (start .args .how) (start .args .place) (start .args .condition) _ (at-get-constant .get-constant .ensures) (sym (at-is-const .is-const .ensures) ∙ at-if1 .if1 .left) (sym (at-is-const2 .is-const2 .ensures) ∙ at-if2 .if2 .left) (not-false _ (at-if4 .if4 .left)) _ _ (at-ask-at .ask-at .ensures h inputs (start .args .result .now)) _ _ (at-asked .asked .given .1)
+    let given = start .args .given .now in
+    let result = start .args .result .now in
+    λ h inputs dumps mode. c .by-reply .ensures h given inputs (start .args .replies .now) result _ (waysIn dumps mode (start .args .replies .now)) ∙ bad-replied h given inputs (start .args .replies .now) result (start .args .scratch .now) (start .args .walk) (waysIn dumps mode (start .args .replies .now)) (start .args .how) (start .args .place) (start .args .condition) _ (at-get-constant .get-constant .ensures) (sym (at-is-const .is-const .ensures) ∙ at-if1 .if1 .left) (sym (at-is-const2 .is-const2 .ensures) ∙ at-if2 .if2 .left) (not-false _ (at-if4 .if4 .left)) _ _ (at-ask-at .ask-at .ensures h inputs result) _ _ (at-asked .asked .given .1)
 
 same-length-2 : tie.Need-same-length-2
 same-length-2 c = search needs

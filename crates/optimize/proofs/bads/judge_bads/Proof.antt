@@ -103,7 +103,12 @@ returns c =
     let at-number = at-visit-in .before .before .before in
     let at-loop = at-number .before .before .before in
     let start = at-loop .before .before .before .before .before in
-    ((λ h. bads-stop (start .args .given .now) (start .args .dumps .now) (inputsIn (start .args .given .now) (start .args .call .now)) (repliesIn (start .args .given .now) (start .args .call .now)) (modeIn (start .args .call .now)) 0 (start .args .how) (start .args .bads .now) (at-loop .loop .result) (at-loop .loop .scratch) (start .args .at) (start .args .list) (at-loop .loop .walk) (at-loop .loop .kept) (at-loop .loop .i) _ _ _ (at-number .number .result) (at-number .number .ensures) (omega arith) _ (at-loop .loop .inv .7 h) (retains (start .args .given .now) (start .args .dumps .now) (inputsIn (start .args .given .now) (start .args .call .now)) (repliesIn (start .args .given .now) (start .args .call .now)) (modeIn (start .args .call .now)) (start .args .how) (at-loop .loop .i) (at-number .number .result) (at-loop .loop .result) (take (start .args .at) (at-loop .loop .scratch)) _ _ (take (start .args .at) (at-retain-in .retain-in .last .1 .1 .1 .0)) (at-loop .loop .walk) _ _ (at-visit-in .visit-in .ensures .0) (λ h. at-retain-in .retain-in .ensures .0 h (start .args .dumps .now))) (c .before .retained2 .given .1)), record { laid = λ w k e. never-refused _ w k e; few = λ w k e. never-refused _ w k e; spare = λ w k c e s. never-refused _ w k e; still = λ j a b. bads-still-1 _ _ (start .args .at) (at-retain-in .retain-in .ensures .1 ∙ at-visit-in .visit-in .ensures .1) j a ∙ at-loop .loop .inv .6 j a b })
+    let given = start .args .given .now in
+    let call = start .args .call .now in
+    let dumps = start .args .dumps .now in
+    let inputs = inputsIn given call in
+    let replies = repliesIn given call in
+    ((λ h. bads-stop given dumps inputs replies (modeIn call) 0 (start .args .how) (start .args .bads .now) (at-loop .loop .result) (at-loop .loop .scratch) (start .args .at) (start .args .list) (at-loop .loop .walk) (at-loop .loop .kept) (at-loop .loop .i) _ _ _ (at-number .number .result) (at-number .number .ensures) (omega arith) _ (at-loop .loop .inv .7 h) (retains given dumps inputs replies (modeIn call) (start .args .how) (at-loop .loop .i) (at-number .number .result) (at-loop .loop .result) (take (start .args .at) (at-loop .loop .scratch)) _ _ (take (start .args .at) (at-retain-in .retain-in .last .1 .1 .1 .0)) (at-loop .loop .walk) _ _ (at-visit-in .visit-in .ensures .0) (λ h. at-retain-in .retain-in .ensures .0 h dumps)) (c .before .retained2 .given .1)), record { laid = λ w k e. never-refused _ w k e; few = λ w k e. never-refused _ w k e; spare = λ w k c e s. never-refused _ w k e; still = λ j a b. bads-still-1 _ _ (start .args .at) (at-retain-in .retain-in .ensures .1 ∙ at-visit-in .visit-in .ensures .1) j a ∙ at-loop .loop .inv .6 j a b })
 
 add-i : tie.Need-add-i Inv-loop μ-loop
 add-i c =
@@ -126,7 +131,12 @@ loop-again c =
     let at-number = at-visit-in .before .before .before in
     let at-loop = at-number .before .before .before in
     let start = at-loop .before .before .before .before .before in
-    (omega arith, omega (arith, at-put-if .put-if .ensures .few, at-loop .loop .inv .1), at-visit-in .visit-in .kept .1 .0 ∙ at-loop .loop .inv .2, at-put-if .put-if .kept .0 ∙ at-retain-in .retain-in .kept .1 .1 .1 .0 ∙ at-visit-in .visit-in .kept .1 .1 .0 ∙ at-loop .loop .inv .3, (subst (λ z. Laid (start .args .given .now) (start .args .dumps .now) (inputsIn (start .args .given .now) (start .args .call .now)) (repliesIn (start .args .given .now) (start .args .call .now)) (modeIn (start .args .call .now)) 0 (at-visit-in .visit-in .last .1 .0) z (at-retained .retained .given .0 .0)) (sym (take-front _ _ (start .args .at) (start .args .list) (start .pre .1 .1 .0) (at-put-if .put-if .ensures .front))) (laid-retained (start .args .given .now) (start .args .dumps .now) (inputsIn (start .args .given .now) (start .args .call .now)) (repliesIn (start .args .given .now) (start .args .call .now)) (modeIn (start .args .call .now)) 0 (at-loop .loop .result) (take (start .args .at) (at-loop .loop .scratch)) (at-visit-in .visit-in .last .1 .0) (take (start .args .at) (at-retain-in .retain-in .last .1 .1 .1 .0)) (at-loop .loop .walk) _ (start .args .how) (at-loop .loop .i) (at-number .number .result) (at-retain-in .retain-in .result) _ (at-loop .loop .inv .4) (subst (BadEntry (tableOf (start .args .given .now))) (sym (at-number .number .ensures)) (all-at (BadEntry (tableOf (start .args .given .now))) (start .args .bads .now) (start .pre .1 .0 .0) (at-loop .loop .i) (omega arith))) (retains (start .args .given .now) (start .args .dumps .now) (inputsIn (start .args .given .now) (start .args .call .now)) (repliesIn (start .args .given .now) (start .args .call .now)) (modeIn (start .args .call .now)) (start .args .how) (at-loop .loop .i) (at-number .number .result) (at-loop .loop .result) (take (start .args .at) (at-loop .loop .scratch)) _ _ (take (start .args .at) (at-retain-in .retain-in .last .1 .1 .1 .0)) (at-loop .loop .walk) _ _ (at-visit-in .visit-in .ensures .0) (λ h. at-retain-in .retain-in .ensures .0 h (start .args .dumps .now))) (at-retained .retained .given .1) (at-visit-in .visit-in .kept .1 .0) (length-take-le (start .args .at) _ (omega (arith, start .pre .1 .1 .0, start .pre .1 .1 .1, at-loop .loop .inv .3, at-retain-in .retain-in .kept .1 .1 .1 .0, at-visit-in .visit-in .kept .1 .1 .0)) ∙ sym (length-take-le (start .args .at) _ (omega (arith, start .pre .1 .1 .0, start .pre .1 .1 .1, at-loop .loop .inv .3)))) (spare-less 0 (start .args .given .now) (take (start .args .at) (at-loop .loop .scratch)) (at-loop .loop .walk) (length (start .args .bads .now) - (at-loop .loop .i) + 0) 1 (omega arith) (at-loop .loop .inv .5 0 (spare-less 0 (start .args .given .now) (take (start .args .at) (start .args .scratch .now)) (start .args .walk) (length (start .args .bads .now)) (length (start .args .bads .now) + 0) (omega arith) (start .pre .1 .0 .1)))))), (λ d s. subst (λ z. Spare 0 (start .args .given .now) z (at-retained .retained .given .0 .0) (length (start .args .bads .now) - ((at-loop .loop .i) + 1) + d)) (sym (take-front _ _ (start .args .at) (start .args .list) (start .pre .1 .1 .0) (at-put-if .put-if .ensures .front))) (spare-retained (start .args .given .now) (start .args .dumps .now) (inputsIn (start .args .given .now) (start .args .call .now)) (repliesIn (start .args .given .now) (start .args .call .now)) (modeIn (start .args .call .now)) 0 (at-loop .loop .result) (take (start .args .at) (at-loop .loop .scratch)) (at-visit-in .visit-in .last .1 .0) (take (start .args .at) (at-retain-in .retain-in .last .1 .1 .1 .0)) (at-loop .loop .walk) _ (start .args .how) (at-loop .loop .i) (at-number .number .result) (at-retain-in .retain-in .result) _ (at-loop .loop .inv .4) (subst (BadEntry (tableOf (start .args .given .now))) (sym (at-number .number .ensures)) (all-at (BadEntry (tableOf (start .args .given .now))) (start .args .bads .now) (start .pre .1 .0 .0) (at-loop .loop .i) (omega arith))) (retains (start .args .given .now) (start .args .dumps .now) (inputsIn (start .args .given .now) (start .args .call .now)) (repliesIn (start .args .given .now) (start .args .call .now)) (modeIn (start .args .call .now)) (start .args .how) (at-loop .loop .i) (at-number .number .result) (at-loop .loop .result) (take (start .args .at) (at-loop .loop .scratch)) _ _ (take (start .args .at) (at-retain-in .retain-in .last .1 .1 .1 .0)) (at-loop .loop .walk) _ _ (at-visit-in .visit-in .ensures .0) (λ h. at-retain-in .retain-in .ensures .0 h (start .args .dumps .now))) (at-retained .retained .given .1) (length-take-le (start .args .at) _ (omega (arith, start .pre .1 .1 .0, start .pre .1 .1 .1, at-loop .loop .inv .3, at-retain-in .retain-in .kept .1 .1 .1 .0, at-visit-in .visit-in .kept .1 .1 .0)) ∙ sym (length-take-le (start .args .at) _ (omega (arith, start .pre .1 .1 .0, start .pre .1 .1 .1, at-loop .loop .inv .3)))) (length (start .args .bads .now) - ((at-loop .loop .i) + 1) + d) (spare-less 0 (start .args .given .now) (take (start .args .at) (at-loop .loop .scratch)) (at-loop .loop .walk) (length (start .args .bads .now) - (at-loop .loop .i) + d) (length (start .args .bads .now) - ((at-loop .loop .i) + 1) + d + 1) (omega arith) (at-loop .loop .inv .5 d s)))), (λ j a b. bads-still _ _ _ (start .args .at) (start .args .list) (at-retain-in .retain-in .ensures .1 ∙ at-visit-in .visit-in .ensures .1) (at-put-if .put-if .ensures .front) j a b ∙ at-loop .loop .inv .6 j a b), λ h. bads-on (start .args .given .now) (start .args .dumps .now) (inputsIn (start .args .given .now) (start .args .call .now)) (repliesIn (start .args .given .now) (start .args .call .now)) (modeIn (start .args .call .now)) 0 (start .args .how) (start .args .bads .now) (at-loop .loop .result) (at-loop .loop .scratch) (start .args .at) (start .args .list) (at-loop .loop .walk) (at-loop .loop .kept) (at-loop .loop .i) _ _ _ (at-number .number .result) (at-number .number .ensures) (omega arith) _ (at-loop .loop .inv .7 h) (retains (start .args .given .now) (start .args .dumps .now) (inputsIn (start .args .given .now) (start .args .call .now)) (repliesIn (start .args .given .now) (start .args .call .now)) (modeIn (start .args .call .now)) (start .args .how) (at-loop .loop .i) (at-number .number .result) (at-loop .loop .result) (take (start .args .at) (at-loop .loop .scratch)) _ _ (take (start .args .at) (at-retain-in .retain-in .last .1 .1 .1 .0)) (at-loop .loop .walk) _ _ (at-visit-in .visit-in .ensures .0) (λ h. at-retain-in .retain-in .ensures .0 h (start .args .dumps .now))) (at-retained .retained .given .1) (at-retain-in .retain-in .ensures .1 ∙ at-visit-in .visit-in .ensures .1) (start .pre .1 .1 .0) (at-wide .wide .ensures) (at-put-if .put-if .ensures))
+    let given = start .args .given .now in
+    let call = start .args .call .now in
+    let dumps = start .args .dumps .now in
+    let inputs = inputsIn given call in
+    let replies = repliesIn given call in
+    (omega arith, omega (arith, at-put-if .put-if .ensures .few, at-loop .loop .inv .1), at-visit-in .visit-in .kept .1 .0 ∙ at-loop .loop .inv .2, at-put-if .put-if .kept .0 ∙ at-retain-in .retain-in .kept .1 .1 .1 .0 ∙ at-visit-in .visit-in .kept .1 .1 .0 ∙ at-loop .loop .inv .3, (subst (λ z. Laid given dumps inputs replies (modeIn call) 0 (at-visit-in .visit-in .last .1 .0) z (at-retained .retained .given .0 .0)) (sym (take-front _ _ (start .args .at) (start .args .list) (start .pre .1 .1 .0) (at-put-if .put-if .ensures .front))) (laid-retained given dumps inputs replies (modeIn call) 0 (at-loop .loop .result) (take (start .args .at) (at-loop .loop .scratch)) (at-visit-in .visit-in .last .1 .0) (take (start .args .at) (at-retain-in .retain-in .last .1 .1 .1 .0)) (at-loop .loop .walk) _ (start .args .how) (at-loop .loop .i) (at-number .number .result) (at-retain-in .retain-in .result) _ (at-loop .loop .inv .4) (subst (BadEntry (tableOf given)) (sym (at-number .number .ensures)) (all-at (BadEntry (tableOf given)) (start .args .bads .now) (start .pre .1 .0 .0) (at-loop .loop .i) (omega arith))) (retains given dumps inputs replies (modeIn call) (start .args .how) (at-loop .loop .i) (at-number .number .result) (at-loop .loop .result) (take (start .args .at) (at-loop .loop .scratch)) _ _ (take (start .args .at) (at-retain-in .retain-in .last .1 .1 .1 .0)) (at-loop .loop .walk) _ _ (at-visit-in .visit-in .ensures .0) (λ h. at-retain-in .retain-in .ensures .0 h dumps)) (at-retained .retained .given .1) (at-visit-in .visit-in .kept .1 .0) (length-take-le (start .args .at) _ (omega (arith, start .pre .1 .1 .0, start .pre .1 .1 .1, at-loop .loop .inv .3, at-retain-in .retain-in .kept .1 .1 .1 .0, at-visit-in .visit-in .kept .1 .1 .0)) ∙ sym (length-take-le (start .args .at) _ (omega (arith, start .pre .1 .1 .0, start .pre .1 .1 .1, at-loop .loop .inv .3)))) (spare-less 0 given (take (start .args .at) (at-loop .loop .scratch)) (at-loop .loop .walk) (length (start .args .bads .now) - (at-loop .loop .i) + 0) 1 (omega arith) (at-loop .loop .inv .5 0 (spare-less 0 given (take (start .args .at) (start .args .scratch .now)) (start .args .walk) (length (start .args .bads .now)) (length (start .args .bads .now) + 0) (omega arith) (start .pre .1 .0 .1)))))), (λ d s. subst (λ z. Spare 0 given z (at-retained .retained .given .0 .0) (length (start .args .bads .now) - ((at-loop .loop .i) + 1) + d)) (sym (take-front _ _ (start .args .at) (start .args .list) (start .pre .1 .1 .0) (at-put-if .put-if .ensures .front))) (spare-retained given dumps inputs replies (modeIn call) 0 (at-loop .loop .result) (take (start .args .at) (at-loop .loop .scratch)) (at-visit-in .visit-in .last .1 .0) (take (start .args .at) (at-retain-in .retain-in .last .1 .1 .1 .0)) (at-loop .loop .walk) _ (start .args .how) (at-loop .loop .i) (at-number .number .result) (at-retain-in .retain-in .result) _ (at-loop .loop .inv .4) (subst (BadEntry (tableOf given)) (sym (at-number .number .ensures)) (all-at (BadEntry (tableOf given)) (start .args .bads .now) (start .pre .1 .0 .0) (at-loop .loop .i) (omega arith))) (retains given dumps inputs replies (modeIn call) (start .args .how) (at-loop .loop .i) (at-number .number .result) (at-loop .loop .result) (take (start .args .at) (at-loop .loop .scratch)) _ _ (take (start .args .at) (at-retain-in .retain-in .last .1 .1 .1 .0)) (at-loop .loop .walk) _ _ (at-visit-in .visit-in .ensures .0) (λ h. at-retain-in .retain-in .ensures .0 h dumps)) (at-retained .retained .given .1) (length-take-le (start .args .at) _ (omega (arith, start .pre .1 .1 .0, start .pre .1 .1 .1, at-loop .loop .inv .3, at-retain-in .retain-in .kept .1 .1 .1 .0, at-visit-in .visit-in .kept .1 .1 .0)) ∙ sym (length-take-le (start .args .at) _ (omega (arith, start .pre .1 .1 .0, start .pre .1 .1 .1, at-loop .loop .inv .3)))) (length (start .args .bads .now) - ((at-loop .loop .i) + 1) + d) (spare-less 0 given (take (start .args .at) (at-loop .loop .scratch)) (at-loop .loop .walk) (length (start .args .bads .now) - (at-loop .loop .i) + d) (length (start .args .bads .now) - ((at-loop .loop .i) + 1) + d + 1) (omega arith) (at-loop .loop .inv .5 d s)))), (λ j a b. bads-still _ _ _ (start .args .at) (start .args .list) (at-retain-in .retain-in .ensures .1 ∙ at-visit-in .visit-in .ensures .1) (at-put-if .put-if .ensures .front) j a b ∙ at-loop .loop .inv .6 j a b), λ h. bads-on given dumps inputs replies (modeIn call) 0 (start .args .how) (start .args .bads .now) (at-loop .loop .result) (at-loop .loop .scratch) (start .args .at) (start .args .list) (at-loop .loop .walk) (at-loop .loop .kept) (at-loop .loop .i) _ _ _ (at-number .number .result) (at-number .number .ensures) (omega arith) _ (at-loop .loop .inv .7 h) (retains given dumps inputs replies (modeIn call) (start .args .how) (at-loop .loop .i) (at-number .number .result) (at-loop .loop .result) (take (start .args .at) (at-loop .loop .scratch)) _ _ (take (start .args .at) (at-retain-in .retain-in .last .1 .1 .1 .0)) (at-loop .loop .walk) _ _ (at-visit-in .visit-in .ensures .0) (λ h. at-retain-in .retain-in .ensures .0 h dumps)) (at-retained .retained .given .1) (at-retain-in .retain-in .ensures .1 ∙ at-visit-in .visit-in .ensures .1) (start .pre .1 .1 .0) (at-wide .wide .ensures) (at-put-if .put-if .ensures))
 
 same-length-3 : tie.Need-same-length-3 Inv-loop μ-loop
 same-length-3 c = c .before .loop .inv .2
@@ -137,7 +147,9 @@ same-length-4 c = c .before .loop .inv .3
 returns-2 : tie.Need-returns-2 Inv-loop μ-loop
 returns-2 c =
     let start = c .before .before .before .before .before .before in
-    ((λ h. bads-end (start .args .given .now) (inputsIn (start .args .given .now) (start .args .call .now)) (repliesIn (start .args .given .now) (start .args .call .now)) (waysBy (start .args .given .now) (start .args .dumps .now) (start .args .call .now)) (start .args .how) _ (start .args .bads .now) (c .before .loop .result) (c .before .loop .scratch) (start .args .at) (start .args .list) (c .before .loop .walk) (c .before .loop .kept) (c .before .loop .i) (omega arith) (c .before .loop .inv .7 h)), record { laid = laid-end _ _ _ _ _ _ _ _ _ (c .before .loop .kept) (c .before .loop .inv .4); few = few-end (c .before .loop .walk) (c .before .loop .kept) _ (omega arith); spare = λ w k d e s. spare-end 0 (start .args .given .now) (take (start .args .at) (c .before .loop .scratch)) (c .before .loop .walk) (c .before .loop .kept) d w k e (spare-less 0 (start .args .given .now) (take (start .args .at) (c .before .loop .scratch)) (c .before .loop .walk) (length (start .args .bads .now) - (c .before .loop .i) + d) d (omega arith) (c .before .loop .inv .5 d s)); still = c .before .loop .inv .6 })
+    let given = start .args .given .now in
+    let call = start .args .call .now in
+    ((λ h. bads-end given (inputsIn given call) (repliesIn given call) (waysBy given (start .args .dumps .now) call) (start .args .how) _ (start .args .bads .now) (c .before .loop .result) (c .before .loop .scratch) (start .args .at) (start .args .list) (c .before .loop .walk) (c .before .loop .kept) (c .before .loop .i) (omega arith) (c .before .loop .inv .7 h)), record { laid = laid-end _ _ _ _ _ _ _ _ _ (c .before .loop .kept) (c .before .loop .inv .4); few = few-end (c .before .loop .walk) (c .before .loop .kept) _ (omega arith); spare = λ w k d e s. spare-end 0 given (take (start .args .at) (c .before .loop .scratch)) (c .before .loop .walk) (c .before .loop .kept) d w k e (spare-less 0 given (take (start .args .at) (c .before .loop .scratch)) (c .before .loop .walk) (length (start .args .bads .now) - (c .before .loop .i) + d) d (omega arith) (c .before .loop .inv .5 d s)); still = c .before .loop .inv .6 })
 
 pub judge-bads-spec : {M : Type 1} → statement M
 judge-bads-spec = tie.close (tie.spec Inv-loop μ-loop loop-holds mul-number shared-slice-read-number number-requires visit-in-requires retain-in-requires enum-known-retained wide-requires put-if-requires enum-known-retained-2 same-length same-length-2 returns add-i loop-less loop-again same-length-3 same-length-4 returns-2)

@@ -40,10 +40,16 @@ returns : tie.Need-returns
 returns c =
     let at-should-retain-bad-state = c .before .before in
     let start = at-should-retain-bad-state .before .before .before .before .before in
-    let front = part-front (start .args .scratch .now) (at-should-retain-bad-state .should-retain-bad-state .last .1 .1 .1 .0) (start .args .at) ((start .args .at) - 0) (omega arith) (start .pre .1 .0 .1) (at-should-retain-bad-state .should-retain-bad-state .kept .1 .1 .1 .0) in (
-      subst (λ z. (h : List Held) (dumps : List ℕ) → retainedOf h (start .args .given .now) (inputsIn (start .args .given .now) (start .args .call .now)) (repliesIn (start .args .given .now) (start .args .call .now)) (at-should-retain-bad-state .should-retain-bad-state .result) (start .args .result .now) z ≡ visitedRule (start .args .given .now) (waysBy (start .args .given .now) dumps (start .args .call .now)) (start .args .how) (start .args .place) (start .args .bad) (outcomeOf h (start .args .given .now) (inputsIn (start .args .given .now) (start .args .call .now)) (repliesIn (start .args .given .now) (start .args .call .now)) (start .args .visited) (start .args .result .now) (take (start .args .at) (start .args .scratch .now)))) (sym front)
-          (subst (λ z. (h : List Held) (dumps : List ℕ) → retainedOf h (start .args .given .now) (inputsIn (start .args .given .now) (start .args .call .now)) (repliesIn (start .args .given .now) (start .args .call .now)) (at-should-retain-bad-state .should-retain-bad-state .result) (start .args .result .now) (at-should-retain-bad-state .should-retain-bad-state .last .1 .1 .1 .0) ≡ visitedRule (start .args .given .now) (waysBy (start .args .given .now) dumps (start .args .call .now)) (start .args .how) (start .args .place) (start .args .bad) (outcomeOf h (start .args .given .now) (inputsIn (start .args .given .now) (start .args .call .now)) (repliesIn (start .args .given .now) (start .args .call .now)) (start .args .visited) (start .args .result .now) (take z (start .args .scratch .now)))) (sym (zero-less (start .args .at))) (at-should-retain-bad-state .should-retain-bad-state .ensures)),
-      part-rest (start .args .scratch .now) (at-should-retain-bad-state .should-retain-bad-state .last .1 .1 .1 .0) (start .args .at) ((start .args .at) - 0) (omega arith) (start .pre .1 .0 .1) (at-should-retain-bad-state .should-retain-bad-state .kept .1 .1 .1 .0),
+    let given = start .args .given .now in
+    let call = start .args .call .now in
+    let result = start .args .result .now in
+    let scratch = start .args .scratch .now in
+    let inputs = inputsIn given call in
+    let replies = repliesIn given call in
+    let front = part-front scratch (at-should-retain-bad-state .should-retain-bad-state .last .1 .1 .1 .0) (start .args .at) ((start .args .at) - 0) (omega arith) (start .pre .1 .0 .1) (at-should-retain-bad-state .should-retain-bad-state .kept .1 .1 .1 .0) in (
+      subst (λ z. (h : List Held) (dumps : List ℕ) → retainedOf h given inputs replies (at-should-retain-bad-state .should-retain-bad-state .result) result z ≡ visitedRule given (waysBy given dumps call) (start .args .how) (start .args .place) (start .args .bad) (outcomeOf h given inputs replies (start .args .visited) result (take (start .args .at) scratch))) (sym front)
+          (subst (λ z. (h : List Held) (dumps : List ℕ) → retainedOf h given inputs replies (at-should-retain-bad-state .should-retain-bad-state .result) result (at-should-retain-bad-state .should-retain-bad-state .last .1 .1 .1 .0) ≡ visitedRule given (waysBy given dumps call) (start .args .how) (start .args .place) (start .args .bad) (outcomeOf h given inputs replies (start .args .visited) result (take z scratch))) (sym (zero-less (start .args .at))) (at-should-retain-bad-state .should-retain-bad-state .ensures)),
+      part-rest scratch (at-should-retain-bad-state .should-retain-bad-state .last .1 .1 .1 .0) (start .args .at) ((start .args .at) - 0) (omega arith) (start .pre .1 .0 .1) (at-should-retain-bad-state .should-retain-bad-state .kept .1 .1 .1 .0),
     )
 
 pub retain-in-spec : {M : Type 1} → statement M

@@ -37,13 +37,18 @@ returns c =
     let at-operand = at-replies-in .before in
     let at-visited = at-operand .before .before in
     let start = at-visited .before .before .before .before .before in
-    λ h dumps. retained-by h (start .args .given .now) (inputsIn (start .args .given .now) (start .args .call .now)) _ _ _ _ _ dumps (modeIn (start .args .call .now)) (start .args .how) (start .args .place) _ _ _ _ (at-replies-in .replies-in .ensures) (at-judge-bad .judge-bad .ensures h (inputsIn (start .args .given .now) (start .args .call .now)) dumps (modeIn (start .args .call .now))) ∙ retain-done h (start .args .given .now) (inputsIn (start .args .given .now) (start .args .call .now)) (repliesIn (start .args .given .now) (start .args .call .now)) (waysBy (start .args .given .now) dumps (start .args .call .now)) (start .args .how) (start .args .place) (start .args .bad) (start .args .visited) (start .args .result .now) (start .args .scratch .now) _ _ (at-visited .visited .given .1) (start .pre .0 .2) _ (at-operand .operand .ensures)
+    let given = start .args .given .now in
+    let call = start .args .call .now in
+    let inputs = inputsIn given call in
+    λ h dumps. retained-by h given inputs _ _ _ _ _ dumps (modeIn call) (start .args .how) (start .args .place) _ _ _ _ (at-replies-in .replies-in .ensures) (at-judge-bad .judge-bad .ensures h inputs dumps (modeIn call)) ∙ retain-done h given inputs (repliesIn given call) (waysBy given dumps call) (start .args .how) (start .args .place) (start .args .bad) (start .args .visited) (start .args .result .now) (start .args .scratch .now) _ _ (at-visited .visited .given .1) (start .pre .0 .2) _ (at-operand .operand .ensures)
 
 returns-2 : tie.Need-returns-2
 unfolding retainedOf
 returns-2 c =
     let start = c .before .before .before .before .before .before in
-    λ h dumps. retain-refused h (start .args .given .now) (inputsIn (start .args .given .now) (start .args .call .now)) (repliesIn (start .args .given .now) (start .args .call .now)) (waysBy (start .args .given .now) dumps (start .args .call .now)) (start .args .how) (start .args .place) (start .args .bad) (start .args .visited) (start .args .result .now) (start .args .scratch .now) _ (c .before .visited2 .given .1)
+    let given = start .args .given .now in
+    let call = start .args .call .now in
+    λ h dumps. retain-refused h given (inputsIn given call) (repliesIn given call) (waysBy given dumps call) (start .args .how) (start .args .place) (start .args .bad) (start .args .visited) (start .args .result .now) (start .args .scratch .now) _ (c .before .visited2 .given .1)
 
 pub should-retain-bad-state-spec : {M : Type 1} → statement M
 should-retain-bad-state-spec = tie.close (tie.spec enum-known-visited operand-requires replies-in-requires judge-bad-requires enum-known-visited-2 same-length returns returns-2)

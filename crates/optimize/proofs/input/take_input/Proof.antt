@@ -39,7 +39,12 @@ returns c =
     let at-settle = c .before .before .before .before in
     let at-if1 = at-settle .before .before .before .before in
     let start = at-if1 .before .before .before .before .before .before in
-    λ h replies mode. (h, at-settle .settle .ensures h _ replies (waysIn (start .args .dumps .now) mode replies) ∙ take-none (start .args .given .now) (waysIn (start .args .dumps .now) mode replies) (view h (start .args .given .now) (start .args .inputs .now) replies (start .args .result .now) (start .args .scratch .now) (walkIn (start .args .counters .now))) (start .args .node) (inputs-none h (start .args .given .now) (start .args .inputs .now) replies (start .args .result .now) (start .args .scratch .now) (walkIn (start .args .counters .now)) (at-if1 .if1 .taken)))
+    let given = start .args .given .now in
+    let dumps = start .args .dumps .now in
+    let result = start .args .result .now in
+    let scratch = start .args .scratch .now in
+    let counters = start .args .counters .now in
+    λ h replies mode. (h, at-settle .settle .ensures h _ replies (waysIn dumps mode replies) ∙ take-none given (waysIn dumps mode replies) (view h given (start .args .inputs .now) replies result scratch (walkIn counters)) (start .args .node) (inputs-none h given (start .args .inputs .now) replies result scratch (walkIn counters) (at-if1 .if1 .taken)))
 
 operand-requires : tie.Need-operand-requires
 operand-requires c κs = search needs
@@ -66,7 +71,12 @@ returns-2 c =
     let at-operand = at-is-dump .before in
     let at-if1 = at-operand .before .before in
     let start = at-if1 .before .before .before .before .before .before in
-    λ h replies mode. (h, at-settle2 .settle2 .ensures h _ replies (waysIn (start .args .dumps .now) mode replies) ∙ take-dump (start .args .given .now) (waysIn (start .args .dumps .now) mode replies) (view h (start .args .given .now) (start .args .inputs .now) replies (start .args .result .now) (start .args .scratch .now) (walkIn (start .args .counters .now))) (start .args .node) (getD (start .args .inputs .now) (getD (start .args .counters .now) 1 0) 0) (drop (suc (getD (start .args .counters .now) 1 0)) (start .args .inputs .now)) (inputs-some h (start .args .given .now) (start .args .inputs .now) replies (start .args .result .now) (start .args .scratch .now) (walkIn (start .args .counters .now)) (at-if1 .if1 .left)) (ap (λ k. (waysIn (start .args .dumps .now) mode replies) .dump k) (sym (at-operand .operand .ensures)) ∙ sym (at-is-dump .is-dump .ensures) ∙ at-if2 .if2 .taken))
+    let given = start .args .given .now in
+    let dumps = start .args .dumps .now in
+    let result = start .args .result .now in
+    let scratch = start .args .scratch .now in
+    let counters = start .args .counters .now in
+    λ h replies mode. (h, at-settle2 .settle2 .ensures h _ replies (waysIn dumps mode replies) ∙ take-dump given (waysIn dumps mode replies) (view h given (start .args .inputs .now) replies result scratch (walkIn counters)) (start .args .node) (getD (start .args .inputs .now) (getD counters 1 0) 0) (drop (suc (getD counters 1 0)) (start .args .inputs .now)) (inputs-some h given (start .args .inputs .now) replies result scratch (walkIn counters) (at-if1 .if1 .left)) (ap (λ k. (waysIn dumps mode replies) .dump k) (sym (at-operand .operand .ensures)) ∙ sym (at-is-dump .is-dump .ensures) ∙ at-if2 .if2 .taken))
 
 word-requires : tie.Need-word-requires
 word-requires c κs = search needs
@@ -83,7 +93,12 @@ returns-3 c =
     let at-operand = at-is-dump .before in
     let at-if1 = at-operand .before .before in
     let start = at-if1 .before .before .before .before .before .before in
-    λ h replies mode. (h, refuses h _ _ replies _ _ _ (start .args .counters .now) _ (Refusal.MemoryInput (start .args .node)) (c .refuse .ensures) ∙ take-memory (start .args .given .now) (waysIn (start .args .dumps .now) mode replies) (view h (start .args .given .now) (start .args .inputs .now) replies (start .args .result .now) (start .args .scratch .now) (walkIn (start .args .counters .now))) (start .args .node) (getD (start .args .inputs .now) (getD (start .args .counters .now) 1 0) 0) (drop (suc (getD (start .args .counters .now) 1 0)) (start .args .inputs .now)) (inputs-some h (start .args .given .now) (start .args .inputs .now) replies (start .args .result .now) (start .args .scratch .now) (walkIn (start .args .counters .now)) (at-if1 .if1 .left)) (ap (λ k. (waysIn (start .args .dumps .now) mode replies) .dump k) (sym (at-operand .operand .ensures)) ∙ sym (at-is-dump .is-dump .ensures) ∙ at-if2 .if2 .left) (sym (at-word .word .ensures) ∙ at-if3 .if3 .taken))
+    let given = start .args .given .now in
+    let dumps = start .args .dumps .now in
+    let result = start .args .result .now in
+    let scratch = start .args .scratch .now in
+    let counters = start .args .counters .now in
+    λ h replies mode. (h, refuses h _ _ replies _ _ _ counters _ (Refusal.MemoryInput (start .args .node)) (c .refuse .ensures) ∙ take-memory given (waysIn dumps mode replies) (view h given (start .args .inputs .now) replies result scratch (walkIn counters)) (start .args .node) (getD (start .args .inputs .now) (getD counters 1 0) 0) (drop (suc (getD counters 1 0)) (start .args .inputs .now)) (inputs-some h given (start .args .inputs .now) replies result scratch (walkIn counters) (at-if1 .if1 .left)) (ap (λ k. (waysIn dumps mode replies) .dump k) (sym (at-operand .operand .ensures)) ∙ sym (at-is-dump .is-dump .ensures) ∙ at-if2 .if2 .left) (sym (at-word .word .ensures) ∙ at-if3 .if3 .taken))
 
 mul-value : tie.Need-mul-value
 mul-value c = search needs
@@ -108,7 +123,12 @@ returns-4 c =
     let at-operand = at-is-dump .before in
     let at-if1 = at-operand .before .before in
     let start = at-if1 .before .before .before .before .before .before in
-    λ h replies mode. (h, refuses h _ _ replies _ _ _ (start .args .counters .now) _ (Refusal.InputTooWide (start .args .node)) (c .refuse2 .ensures) ∙ take-wide (start .args .given .now) (waysIn (start .args .dumps .now) mode replies) (view h (start .args .given .now) (start .args .inputs .now) replies (start .args .result .now) (start .args .scratch .now) (walkIn (start .args .counters .now))) (start .args .node) (getD (start .args .inputs .now) (getD (start .args .counters .now) 1 0) 0) (drop (suc (getD (start .args .counters .now) 1 0)) (start .args .inputs .now)) (inputs-some h (start .args .given .now) (start .args .inputs .now) replies (start .args .result .now) (start .args .scratch .now) (walkIn (start .args .counters .now)) (at-if1 .if1 .left)) (ap (λ k. (waysIn (start .args .dumps .now) mode replies) .dump k) (sym (at-operand .operand .ensures)) ∙ sym (at-is-dump .is-dump .ensures) ∙ at-if2 .if2 .left) (λ e. at-if3 .if3 .left (at-word .word .ensures ∙ e)) (ap (λ s. fits s (getD (start .args .inputs .now) (getD (start .args .counters .now) 1 0) 0)) (sym (at-word .word .ensures)) ∙ sym (at-fits-sort .fits-sort .ensures) ∙ not-true _ (at-if4 .if4 .taken)))
+    let given = start .args .given .now in
+    let dumps = start .args .dumps .now in
+    let result = start .args .result .now in
+    let scratch = start .args .scratch .now in
+    let counters = start .args .counters .now in
+    λ h replies mode. (h, refuses h _ _ replies _ _ _ counters _ (Refusal.InputTooWide (start .args .node)) (c .refuse2 .ensures) ∙ take-wide given (waysIn dumps mode replies) (view h given (start .args .inputs .now) replies result scratch (walkIn counters)) (start .args .node) (getD (start .args .inputs .now) (getD counters 1 0) 0) (drop (suc (getD counters 1 0)) (start .args .inputs .now)) (inputs-some h given (start .args .inputs .now) replies result scratch (walkIn counters) (at-if1 .if1 .left)) (ap (λ k. (waysIn dumps mode replies) .dump k) (sym (at-operand .operand .ensures)) ∙ sym (at-is-dump .is-dump .ensures) ∙ at-if2 .if2 .left) (λ e. at-if3 .if3 .left (at-word .word .ensures ∙ e)) (ap (λ s. fits s (getD (start .args .inputs .now) (getD counters 1 0) 0)) (sym (at-word .word .ensures)) ∙ sym (at-fits-sort .fits-sort .ensures) ∙ not-true _ (at-if4 .if4 .taken)))
 
 took-one-requires : tie.Need-took-one-requires
 took-one-requires c κs = search needs
@@ -138,7 +158,12 @@ returns-5 c =
     let at-operand = at-is-dump .before in
     let at-if1 = at-operand .before .before in
     let start = at-if1 .before .before .before .before .before .before in
-    λ h replies mode. (h ++ (record { state = (start .args .node); by = (newNumber (tableOf (start .args .given .now)) (waysIn (start .args .dumps .now) mode replies) (view h (start .args .given .now) (start .args .inputs .now) replies (start .args .result .now) (start .args .scratch .now) (walkIn (start .args .counters .now)))) } ∷ []), at-settle3 .settle3 .ensures _ _ replies (waysIn (start .args .dumps .now) mode replies) ∙ ap (λ (w : Walk). settle (tableOf (start .args .given .now)) (waysIn (start .args .dumps .now) mode replies) (start .args .node) (view (h ++ (record { state = (start .args .node); by = (newNumber (tableOf (start .args .given .now)) (waysIn (start .args .dumps .now) mode replies) (view h (start .args .given .now) (start .args .inputs .now) replies (start .args .result .now) (start .args .scratch .now) (walkIn (start .args .counters .now)))) } ∷ [])) (start .args .given .now) (start .args .inputs .now) replies (start .args .result .now) (start .args .scratch .now) w) (make (at-word .word .result) (getD (start .args .inputs .now) (getD (start .args .counters .now) 1 0) 0))) (walk-put (oneTaken (walkIn (start .args .counters .now))) (start .args .counters .now) _ (at-took-one .took-one .ensures)) ∙ rw (at-word .word .ensures, took h (start .args .given .now) (start .args .inputs .now) replies (start .args .result .now) (start .args .scratch .now) (walkIn (start .args .counters .now)) (start .args .node) (newNumber (tableOf (start .args .given .now)) (waysIn (start .args .dumps .now) mode replies) (view h (start .args .given .now) (start .args .inputs .now) replies (start .args .result .now) (start .args .scratch .now) (walkIn (start .args .counters .now))))) (take-made (start .args .given .now) (waysIn (start .args .dumps .now) mode replies) (view h (start .args .given .now) (start .args .inputs .now) replies (start .args .result .now) (start .args .scratch .now) (walkIn (start .args .counters .now))) (start .args .node) (getD (start .args .inputs .now) (getD (start .args .counters .now) 1 0) 0) (drop (suc (getD (start .args .counters .now) 1 0)) (start .args .inputs .now)) (inputs-some h (start .args .given .now) (start .args .inputs .now) replies (start .args .result .now) (start .args .scratch .now) (walkIn (start .args .counters .now)) (at-if1 .if1 .left)) (ap (λ k. (waysIn (start .args .dumps .now) mode replies) .dump k) (sym (at-operand .operand .ensures)) ∙ sym (at-is-dump .is-dump .ensures) ∙ at-if2 .if2 .left) (λ e. at-if3 .if3 .left (at-word .word .ensures ∙ e)) (ap (λ s. fits s (getD (start .args .inputs .now) (getD (start .args .counters .now) 1 0) 0)) (sym (at-word .word .ensures)) ∙ sym (at-fits-sort .fits-sort .ensures) ∙ not-false _ (at-if4 .if4 .left))))
+    let given = start .args .given .now in
+    let dumps = start .args .dumps .now in
+    let result = start .args .result .now in
+    let scratch = start .args .scratch .now in
+    let counters = start .args .counters .now in
+    λ h replies mode. (h ++ (record { state = (start .args .node); by = (newNumber (tableOf given) (waysIn dumps mode replies) (view h given (start .args .inputs .now) replies result scratch (walkIn counters))) } ∷ []), at-settle3 .settle3 .ensures _ _ replies (waysIn dumps mode replies) ∙ ap (λ (w : Walk). settle (tableOf given) (waysIn dumps mode replies) (start .args .node) (view (h ++ (record { state = (start .args .node); by = (newNumber (tableOf given) (waysIn dumps mode replies) (view h given (start .args .inputs .now) replies result scratch (walkIn counters))) } ∷ [])) given (start .args .inputs .now) replies result scratch w) (make (at-word .word .result) (getD (start .args .inputs .now) (getD counters 1 0) 0))) (walk-put (oneTaken (walkIn counters)) counters _ (at-took-one .took-one .ensures)) ∙ rw (at-word .word .ensures, took h given (start .args .inputs .now) replies result scratch (walkIn counters) (start .args .node) (newNumber (tableOf given) (waysIn dumps mode replies) (view h given (start .args .inputs .now) replies result scratch (walkIn counters)))) (take-made given (waysIn dumps mode replies) (view h given (start .args .inputs .now) replies result scratch (walkIn counters)) (start .args .node) (getD (start .args .inputs .now) (getD counters 1 0) 0) (drop (suc (getD counters 1 0)) (start .args .inputs .now)) (inputs-some h given (start .args .inputs .now) replies result scratch (walkIn counters) (at-if1 .if1 .left)) (ap (λ k. (waysIn dumps mode replies) .dump k) (sym (at-operand .operand .ensures)) ∙ sym (at-is-dump .is-dump .ensures) ∙ at-if2 .if2 .left) (λ e. at-if3 .if3 .left (at-word .word .ensures ∙ e)) (ap (λ s. fits s (getD (start .args .inputs .now) (getD counters 1 0) 0)) (sym (at-word .word .ensures)) ∙ sym (at-fits-sort .fits-sort .ensures) ∙ not-false _ (at-if4 .if4 .left))))
 
 pub take-input-spec : {M : Type 1} → statement M
 take-input-spec = tie.close (tie.spec element-copy-out-taken settle-requires same-length same-length-2 returns operand-requires is-dump-requires settle-requires-2 same-length-3 same-length-4 returns-2 word-requires refuse-requires returns-3 mul-value shared-slice-read-value fits-sort-requires refuse-requires-2 returns-4 took-one-requires settle-requires-3 same-length-5 same-length-6 returns-5)

@@ -44,7 +44,9 @@ returns-2 c =
     let at-number = at-ask-in .before .before in
     let at-if2 = at-number .before .before in
     let start = at-if2 .before .before .before .before .before in
-    ((λ h inputs R m how z. last-one h (start .args .given .now) inputs (start .args .replies .now) R (take (start .args .at) (start .args .scratch .now)) (entriesOf (start .args .scratch .now) (start .args .list) (start .args .kept)) (start .args .walk) m how z _ (at-ask-in .ask-in .result) (take (start .args .at) (at-ask-in .ask-in .last .1 .1 .0)) (c .verdict-of .ensures h (start .args .given .now) inputs (start .args .replies .now) R (take (start .args .at) (at-ask-in .ask-in .last .1 .1 .0))) ((entries-length (start .args .scratch .now) (start .args .list) (start .args .kept) (start .pre .1 .1)) ∙ at-if2 .if2 .taken) (at-number .number .result) (at-number .number .ensures ∙ first-place (start .args .scratch .now) (start .args .list) ∙ sym (entry-at (start .args .scratch .now) (start .args .list) (start .args .kept) (start .pre .1 .1) 0 (omega arith))) (at-ask-in .ask-in .ensures .0 h inputs R)), at-ask-in .ask-in .ensures .1)
+    let given = start .args .given .now in
+    let scratch = start .args .scratch .now in
+    ((λ h inputs R m how z. last-one h given inputs (start .args .replies .now) R (take (start .args .at) scratch) (entriesOf scratch (start .args .list) (start .args .kept)) (start .args .walk) m how z _ (at-ask-in .ask-in .result) (take (start .args .at) (at-ask-in .ask-in .last .1 .1 .0)) (c .verdict-of .ensures h given inputs (start .args .replies .now) R (take (start .args .at) (at-ask-in .ask-in .last .1 .1 .0))) ((entries-length scratch (start .args .list) (start .args .kept) (start .pre .1 .1)) ∙ at-if2 .if2 .taken) (at-number .number .result) (at-number .number .ensures ∙ first-place scratch (start .args .list) ∙ sym (entry-at scratch (start .args .list) (start .args .kept) (start .pre .1 .1) 0 (omega arith))) (at-ask-in .ask-in .ensures .0 h inputs R)), at-ask-in .ask-in .ensures .1)
 
 ask-in-requires-2 : tie.Need-ask-in-requires-2
 ask-in-requires-2 c κs =
@@ -65,7 +67,9 @@ returns-3 c =
     let at-if2 = at-ask-in2 .before .before in
     let at-if1 = at-if2 .before in
     let start = at-if1 .before .before .before .before in
-    ((λ h inputs R m how z. last-many h (start .args .given .now) inputs (start .args .replies .now) R (take (start .args .at) (start .args .scratch .now)) (entriesOf (start .args .scratch .now) (start .args .list) (start .args .kept)) (start .args .walk) m how z _ (at-ask-in2 .ask-in2 .result) (take (start .args .at) (at-ask-in2 .ask-in2 .last .1 .1 .0)) (c .verdict-of2 .ensures h (start .args .given .now) inputs (start .args .replies .now) R (take (start .args .at) (at-ask-in2 .ask-in2 .last .1 .1 .0))) (omega (arith, (entries-length (start .args .scratch .now) (start .args .list) (start .args .kept) (start .pre .1 .1)), at-if1 .if1 .left, at-if2 .if2 .left)) (start .args .kept) (sym (entries-length (start .args .scratch .now) (start .args .list) (start .args .kept) (start .pre .1 .1))) (at-ask-in2 .ask-in2 .ensures .0 h inputs R)), at-ask-in2 .ask-in2 .ensures .1)
+    let given = start .args .given .now in
+    let scratch = start .args .scratch .now in
+    ((λ h inputs R m how z. last-many h given inputs (start .args .replies .now) R (take (start .args .at) scratch) (entriesOf scratch (start .args .list) (start .args .kept)) (start .args .walk) m how z _ (at-ask-in2 .ask-in2 .result) (take (start .args .at) (at-ask-in2 .ask-in2 .last .1 .1 .0)) (c .verdict-of2 .ensures h given inputs (start .args .replies .now) R (take (start .args .at) (at-ask-in2 .ask-in2 .last .1 .1 .0))) (omega (arith, (entries-length scratch (start .args .list) (start .args .kept) (start .pre .1 .1)), at-if1 .if1 .left, at-if2 .if2 .left)) (start .args .kept) (sym (entries-length scratch (start .args .list) (start .args .kept) (start .pre .1 .1))) (at-ask-in2 .ask-in2 .ensures .0 h inputs R)), at-ask-in2 .ask-in2 .ensures .1)
 
 pub last-question-spec : {M : Type 1} → statement M
 last-question-spec = tie.close (tie.spec returns mul-number slice-read-number number-requires ask-in-requires verdict-of-requires same-length returns-2 ask-in-requires-2 verdict-of-requires-2 same-length-2 returns-3)

@@ -46,7 +46,9 @@ visit-in-requires c κs =
     let at-number = c .before .before in
     let at-loop = at-number .before .before .before in
     let start = at-loop .before .before .before .before in
-    ((omega (arith, start .pre .0, at-loop .loop .inv .2), (subst (λ z. z < countOf (start .args .given .now)) (sym (at-number .number .ensures ∙ same-entry (start .args .scratch .now) (at-loop .loop .scratch) (start .args .at) (at-loop .loop .inv .3) (at-loop .loop .i) ∙ sym (entry-at (start .args .scratch .now) (start .args .at) (start .args .count) (start .pre .0) (at-loop .loop .i) (omega arith)))) (all-at (λ z. z < countOf (start .args .given .now)) (entriesOf (start .args .scratch .now) (start .args .at) (start .args .count)) (start .pre .1 .1) (at-loop .loop .i) (omega (arith, (entries-length (start .args .scratch .now) (start .args .at) (start .args .count) (start .pre .0))))))), at-loop .loop .inv .4)
+    let given = start .args .given .now in
+    let scratch = start .args .scratch .now in
+    ((omega (arith, start .pre .0, at-loop .loop .inv .2), (subst (λ z. z < countOf given) (sym (at-number .number .ensures ∙ same-entry scratch (at-loop .loop .scratch) (start .args .at) (at-loop .loop .inv .3) (at-loop .loop .i) ∙ sym (entry-at scratch (start .args .at) (start .args .count) (start .pre .0) (at-loop .loop .i) (omega arith)))) (all-at (λ z. z < countOf given) (entriesOf scratch (start .args .at) (start .args .count)) (start .pre .1 .1) (at-loop .loop .i) (omega (arith, (entries-length scratch (start .args .at) (start .args .count) (start .pre .0))))))), at-loop .loop .inv .4)
 
 enum-known-visited : tie.Need-enum-known-visited Inv-loop μ-loop
 enum-known-visited c = search needs
@@ -72,7 +74,10 @@ returns c =
     let at-number = at-visit-in .before .before .before in
     let at-loop = at-number .before .before .before in
     let start = at-loop .before .before .before .before in
-    ((λ h. let p = at-loop .loop .inv .5 h in (p .0, visits-stop (start .args .given .now) (inputsIn (start .args .given .now) (start .args .call .now)) (repliesIn (start .args .given .now) (start .args .call .now)) (waysBy (start .args .given .now) (start .args .dumps .now) (start .args .call .now)) _ (entriesOf (start .args .scratch .now) (start .args .at) (start .args .count)) (at-loop .loop .result) (take (start .args .at) (at-loop .loop .scratch)) (at-loop .loop .walk) (at-loop .loop .i) (at-number .number .result) (p .0) (at-number .number .ensures ∙ same-entry (start .args .scratch .now) (at-loop .loop .scratch) (start .args .at) (at-loop .loop .inv .3) (at-loop .loop .i) ∙ sym (entry-at (start .args .scratch .now) (start .args .at) (start .args .count) (start .pre .0) (at-loop .loop .i) (omega arith))) (omega (arith, (entries-length (start .args .scratch .now) (start .args .at) (start .args .count) (start .pre .0)))) (p .1) _ _ _ _ (at-visit-in .visit-in .ensures .0 (p .0) (at-number .number .result + 1) (omega arith)) (c .before .visited2 .given .1))), ((λ w e. refused-never _ w e), at-visit-in .visit-in .ensures .1 ∙ at-loop .loop .inv .3))
+    let given = start .args .given .now in
+    let call = start .args .call .now in
+    let scratch = start .args .scratch .now in
+    ((λ h. let p = at-loop .loop .inv .5 h in (p .0, visits-stop given (inputsIn given call) (repliesIn given call) (waysBy given (start .args .dumps .now) call) _ (entriesOf scratch (start .args .at) (start .args .count)) (at-loop .loop .result) (take (start .args .at) (at-loop .loop .scratch)) (at-loop .loop .walk) (at-loop .loop .i) (at-number .number .result) (p .0) (at-number .number .ensures ∙ same-entry scratch (at-loop .loop .scratch) (start .args .at) (at-loop .loop .inv .3) (at-loop .loop .i) ∙ sym (entry-at scratch (start .args .at) (start .args .count) (start .pre .0) (at-loop .loop .i) (omega arith))) (omega (arith, (entries-length scratch (start .args .at) (start .args .count) (start .pre .0)))) (p .1) _ _ _ _ (at-visit-in .visit-in .ensures .0 (p .0) (at-number .number .result + 1) (omega arith)) (c .before .visited2 .given .1))), ((λ w e. refused-never _ w e), at-visit-in .visit-in .ensures .1 ∙ at-loop .loop .inv .3))
 
 add-i : tie.Need-add-i Inv-loop μ-loop
 add-i c = search needs
@@ -86,7 +91,10 @@ loop-again c =
     let at-number = at-visit-in .before .before .before in
     let at-loop = at-number .before .before .before in
     let start = at-loop .before .before .before .before in
-    (omega arith, at-visit-in .visit-in .kept .1 .0 ∙ at-loop .loop .inv .1, at-visit-in .visit-in .kept .1 .1 .0 ∙ at-loop .loop .inv .2, at-visit-in .visit-in .ensures .1 ∙ at-loop .loop .inv .3, (laid-visited _ _ _ _ _ _ _ _ _ _ _ _ _ _ _ (at-loop .loop .inv .4) (subst (λ z. z < countOf (start .args .given .now)) (sym (at-number .number .ensures ∙ same-entry (start .args .scratch .now) (at-loop .loop .scratch) (start .args .at) (at-loop .loop .inv .3) (at-loop .loop .i) ∙ sym (entry-at (start .args .scratch .now) (start .args .at) (start .args .count) (start .pre .0) (at-loop .loop .i) (omega arith)))) (all-at (λ z. z < countOf (start .args .given .now)) (entriesOf (start .args .scratch .now) (start .args .at) (start .args .count)) (start .pre .1 .1) (at-loop .loop .i) (omega (arith, (entries-length (start .args .scratch .now) (start .args .at) (start .args .count) (start .pre .0)))))) (at-visit-in .visit-in .ensures .0) (c .before .visited .given .1) (at-visit-in .visit-in .kept .1 .0) (length-take-le (start .args .at) _ (omega (arith, start .pre .0, at-visit-in .visit-in .kept .1 .1 .0, at-loop .loop .inv .2)) ∙ sym (length-take-le (start .args .at) _ (omega (arith, start .pre .0, at-loop .loop .inv .2))))), λ h. let p = at-loop .loop .inv .5 h in ((at-visit-in .visit-in .ensures .0 (p .0) (at-number .number .result + 1) (omega arith)) .0, visits-on (start .args .given .now) (inputsIn (start .args .given .now) (start .args .call .now)) (repliesIn (start .args .given .now) (start .args .call .now)) (waysBy (start .args .given .now) (start .args .dumps .now) (start .args .call .now)) _ (entriesOf (start .args .scratch .now) (start .args .at) (start .args .count)) (at-loop .loop .result) (take (start .args .at) (at-loop .loop .scratch)) (at-loop .loop .walk) (at-loop .loop .i) (at-number .number .result) (p .0) (at-number .number .ensures ∙ same-entry (start .args .scratch .now) (at-loop .loop .scratch) (start .args .at) (at-loop .loop .inv .3) (at-loop .loop .i) ∙ sym (entry-at (start .args .scratch .now) (start .args .at) (start .args .count) (start .pre .0) (at-loop .loop .i) (omega arith))) (omega (arith, (entries-length (start .args .scratch .now) (start .args .at) (start .args .count) (start .pre .0)))) (p .1) _ _ _ _ _ (at-visit-in .visit-in .ensures .0 (p .0) (at-number .number .result + 1) (omega arith)) (c .before .visited .given .1)))
+    let given = start .args .given .now in
+    let call = start .args .call .now in
+    let scratch = start .args .scratch .now in
+    (omega arith, at-visit-in .visit-in .kept .1 .0 ∙ at-loop .loop .inv .1, at-visit-in .visit-in .kept .1 .1 .0 ∙ at-loop .loop .inv .2, at-visit-in .visit-in .ensures .1 ∙ at-loop .loop .inv .3, (laid-visited _ _ _ _ _ _ _ _ _ _ _ _ _ _ _ (at-loop .loop .inv .4) (subst (λ z. z < countOf given) (sym (at-number .number .ensures ∙ same-entry scratch (at-loop .loop .scratch) (start .args .at) (at-loop .loop .inv .3) (at-loop .loop .i) ∙ sym (entry-at scratch (start .args .at) (start .args .count) (start .pre .0) (at-loop .loop .i) (omega arith)))) (all-at (λ z. z < countOf given) (entriesOf scratch (start .args .at) (start .args .count)) (start .pre .1 .1) (at-loop .loop .i) (omega (arith, (entries-length scratch (start .args .at) (start .args .count) (start .pre .0)))))) (at-visit-in .visit-in .ensures .0) (c .before .visited .given .1) (at-visit-in .visit-in .kept .1 .0) (length-take-le (start .args .at) _ (omega (arith, start .pre .0, at-visit-in .visit-in .kept .1 .1 .0, at-loop .loop .inv .2)) ∙ sym (length-take-le (start .args .at) _ (omega (arith, start .pre .0, at-loop .loop .inv .2))))), λ h. let p = at-loop .loop .inv .5 h in ((at-visit-in .visit-in .ensures .0 (p .0) (at-number .number .result + 1) (omega arith)) .0, visits-on given (inputsIn given call) (repliesIn given call) (waysBy given (start .args .dumps .now) call) _ (entriesOf scratch (start .args .at) (start .args .count)) (at-loop .loop .result) (take (start .args .at) (at-loop .loop .scratch)) (at-loop .loop .walk) (at-loop .loop .i) (at-number .number .result) (p .0) (at-number .number .ensures ∙ same-entry scratch (at-loop .loop .scratch) (start .args .at) (at-loop .loop .inv .3) (at-loop .loop .i) ∙ sym (entry-at scratch (start .args .at) (start .args .count) (start .pre .0) (at-loop .loop .i) (omega arith))) (omega (arith, (entries-length scratch (start .args .at) (start .args .count) (start .pre .0)))) (p .1) _ _ _ _ _ (at-visit-in .visit-in .ensures .0 (p .0) (at-number .number .result + 1) (omega arith)) (c .before .visited .given .1)))
 
 same-length-3 : tie.Need-same-length-3 Inv-loop μ-loop
 same-length-3 c = c .before .loop .inv .1
@@ -97,7 +105,13 @@ same-length-4 c = c .before .loop .inv .2
 returns-2 : tie.Need-returns-2 Inv-loop μ-loop
 returns-2 c =
     let start = c .before .before .before .before .before in
-    ((λ h. let p = c .before .loop .inv .5 h in (p .0, visits-end (start .args .given .now) (inputsIn (start .args .given .now) (start .args .call .now)) (repliesIn (start .args .given .now) (start .args .call .now)) (waysBy (start .args .given .now) (start .args .dumps .now) (start .args .call .now)) _ (entriesOf (start .args .scratch .now) (start .args .at) (start .args .count)) _ _ (c .before .loop .walk) (c .before .loop .i) (p .0) (omega (arith, (entries-length (start .args .scratch .now) (start .args .at) (start .args .count) (start .pre .0)))) (p .1))), ((λ w e. subst (λ z. Laid (start .args .given .now) (start .args .dumps .now) (inputsIn (start .args .given .now) (start .args .call .now)) (repliesIn (start .args .given .now) (start .args .call .now)) (modeIn (start .args .call .now)) 0 (c .before .loop .result) (take (start .args .at) (c .before .loop .scratch)) z) (done-walk _ w e) (c .before .loop .inv .4)), c .before .loop .inv .3))
+    let given = start .args .given .now in
+    let call = start .args .call .now in
+    let dumps = start .args .dumps .now in
+    let scratch = start .args .scratch .now in
+    let inputs = inputsIn given call in
+    let replies = repliesIn given call in
+    ((λ h. let p = c .before .loop .inv .5 h in (p .0, visits-end given inputs replies (waysBy given dumps call) _ (entriesOf scratch (start .args .at) (start .args .count)) _ _ (c .before .loop .walk) (c .before .loop .i) (p .0) (omega (arith, (entries-length scratch (start .args .at) (start .args .count) (start .pre .0)))) (p .1))), ((λ w e. subst (λ z. Laid given dumps inputs replies (modeIn call) 0 (c .before .loop .result) (take (start .args .at) (c .before .loop .scratch)) z) (done-walk _ w e) (c .before .loop .inv .4)), c .before .loop .inv .3))
 
 pub visit-all-spec : {M : Type 1} → statement M
 visit-all-spec = tie.close (tie.spec Inv-loop μ-loop loop-holds add-number mul-number slice-read-number number-requires visit-in-requires enum-known-visited enum-known-visited-2 same-length same-length-2 returns add-i loop-less loop-again same-length-3 same-length-4 returns-2)

@@ -32,7 +32,9 @@ returns c =
     let at-if1 = at-settle .before .before .before .before in
     let at-minimises = at-if1 .before in
     let start = at-minimises .before .before .before .before in
-    λ h inputs dumps. at-settle .settle .ensures h inputs _ (waysBy (start .args .given .now) dumps (start .args .call .now)) ∙ finish-quiet (start .args .given .now) (waysBy (start .args .given .now) dumps (start .args .call .now)) (start .args .node) (view h (start .args .given .now) inputs (repliesIn (start .args .given .now) (start .args .call .now)) (start .args .result .now) (start .args .scratch .now) (walkIn (start .args .counters .now))) stays _ refl (sym (at-minimises .minimises .ensures) ∙ not-true _ (at-if1 .if1 .taken))
+    let given = start .args .given .now in
+    let call = start .args .call .now in
+    λ h inputs dumps. at-settle .settle .ensures h inputs _ (waysBy given dumps call) ∙ finish-quiet given (waysBy given dumps call) (start .args .node) (view h given inputs (repliesIn given call) (start .args .result .now) (start .args .scratch .now) (walkIn (start .args .counters .now))) stays _ refl (sym (at-minimises .minimises .ensures) ∙ not-true _ (at-if1 .if1 .taken))
 
 word-requires : tie.Need-word-requires
 word-requires c κs = search needs
@@ -60,7 +62,8 @@ returns-2 c =
     let at-if1 = at-word .before in
     let at-minimises = at-if1 .before in
     let start = at-minimises .before .before .before .before in
-    λ h inputs dumps. ite-by h (start .args .given .now) inputs dumps _ _ (start .args .result .now) (start .args .scratch .now) (walkIn (start .args .counters .now)) (modeIn (start .args .call .now)) (start .args .node) _ _ _ (at-replies-in .replies-in .ensures) (start .args .x) (start .args .y) (start .args .z) (at-solve-ite-bit .solve-ite-bit .ensures h inputs _ ∙ ite-bit (start .args .given .now) _ (start .args .node) _ (start .args .x) (start .args .y) (start .args .z) (sym (at-minimises .minimises .ensures) ∙ not-false _ (at-if1 .if1 .left)) (sym (at-word .word .ensures) ∙ at-if2 .if2 .taken))
+    let given = start .args .given .now in
+    λ h inputs dumps. ite-by h given inputs dumps _ _ (start .args .result .now) (start .args .scratch .now) (walkIn (start .args .counters .now)) (modeIn (start .args .call .now)) (start .args .node) _ _ _ (at-replies-in .replies-in .ensures) (start .args .x) (start .args .y) (start .args .z) (at-solve-ite-bit .solve-ite-bit .ensures h inputs _ ∙ ite-bit given _ (start .args .node) _ (start .args .x) (start .args .y) (start .args .z) (sym (at-minimises .minimises .ensures) ∙ not-false _ (at-if1 .if1 .left)) (sym (at-word .word .ensures) ∙ at-if2 .if2 .taken))
 
 replies-in-requires-2 : tie.Need-replies-in-requires-2
 replies-in-requires-2 c κs = search needs
@@ -86,7 +89,8 @@ returns-3 c =
     let at-if1 = at-word .before in
     let at-minimises = at-if1 .before in
     let start = at-minimises .before .before .before .before in
-    λ h inputs dumps. ite-by h (start .args .given .now) inputs dumps _ _ (start .args .result .now) (start .args .scratch .now) (walkIn (start .args .counters .now)) (modeIn (start .args .call .now)) (start .args .node) _ _ _ (at-replies-in2 .replies-in2 .ensures) (start .args .x) (start .args .y) (start .args .z) (at-solve-ite-word .solve-ite-word .ensures h inputs _ ∙ ite-word (start .args .given .now) _ (start .args .node) _ (start .args .x) (start .args .y) (start .args .z) (sym (at-minimises .minimises .ensures) ∙ not-false _ (at-if1 .if1 .left)) (λ e. at-if2 .if2 .left (at-word .word .ensures ∙ e)) (sym (at-word .word .ensures) ∙ at-if3 .if3 .taken))
+    let given = start .args .given .now in
+    λ h inputs dumps. ite-by h given inputs dumps _ _ (start .args .result .now) (start .args .scratch .now) (walkIn (start .args .counters .now)) (modeIn (start .args .call .now)) (start .args .node) _ _ _ (at-replies-in2 .replies-in2 .ensures) (start .args .x) (start .args .y) (start .args .z) (at-solve-ite-word .solve-ite-word .ensures h inputs _ ∙ ite-word given _ (start .args .node) _ (start .args .x) (start .args .y) (start .args .z) (sym (at-minimises .minimises .ensures) ∙ not-false _ (at-if1 .if1 .left)) (λ e. at-if2 .if2 .left (at-word .word .ensures ∙ e)) (sym (at-word .word .ensures) ∙ at-if3 .if3 .taken))
 
 settle-requires-2 : tie.Need-settle-requires-2
 settle-requires-2 c κs =
@@ -108,7 +112,9 @@ returns-4 c =
     let at-if1 = at-word .before in
     let at-minimises = at-if1 .before in
     let start = at-minimises .before .before .before .before in
-    λ h inputs dumps. at-settle2 .settle2 .ensures h inputs _ (waysBy (start .args .given .now) dumps (start .args .call .now)) ∙ ite-other (start .args .given .now) (waysBy (start .args .given .now) dumps (start .args .call .now)) (start .args .node) (view h (start .args .given .now) inputs (repliesIn (start .args .given .now) (start .args .call .now)) (start .args .result .now) (start .args .scratch .now) (walkIn (start .args .counters .now))) (start .args .x) (start .args .y) (start .args .z) (sym (at-minimises .minimises .ensures) ∙ not-false _ (at-if1 .if1 .left)) (λ e. at-if2 .if2 .left (at-word .word .ensures ∙ e)) (λ e. at-if3 .if3 .left (at-word .word .ensures ∙ e))
+    let given = start .args .given .now in
+    let call = start .args .call .now in
+    λ h inputs dumps. at-settle2 .settle2 .ensures h inputs _ (waysBy given dumps call) ∙ ite-other given (waysBy given dumps call) (start .args .node) (view h given inputs (repliesIn given call) (start .args .result .now) (start .args .scratch .now) (walkIn (start .args .counters .now))) (start .args .x) (start .args .y) (start .args .z) (sym (at-minimises .minimises .ensures) ∙ not-false _ (at-if1 .if1 .left)) (λ e. at-if2 .if2 .left (at-word .word .ensures ∙ e)) (λ e. at-if3 .if3 .left (at-word .word .ensures ∙ e))
 
 pub after-ite-spec : {M : Type 1} → statement M
 after-ite-spec = tie.close (tie.spec minimises-requires settle-requires same-length same-length-2 returns word-requires replies-in-requires solve-ite-bit-requires same-length-3 same-length-4 returns-2 replies-in-requires-2 solve-ite-word-requires same-length-5 same-length-6 returns-3 settle-requires-2 same-length-7 same-length-8 returns-4)

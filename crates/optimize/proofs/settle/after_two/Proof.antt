@@ -55,7 +55,9 @@ returns c =
     let at-node-count = at-word .before in
     let at-reading-in = at-node-count .before in
     let start = at-reading-in .before .before .before .before in
-    λ h inputs dumps. at-finish .finish .ensures h inputs dumps ∙ two-is h (start .args .given .now) inputs (repliesIn (start .args .given .now) (start .args .call .now)) (start .args .result .now) (start .args .scratch .now) (walkIn (start .args .counters .now)) (waysBy (start .args .given .now) dumps (start .args .call .now)) (start .args .node) (start .args .rule) (start .args .x) (start .args .y) _ _ _ (at-reading-in .reading-in .ensures) (at-fold-two .fold-two .ensures ∙ rw (at-word .word .ensures, at-node-count .node-count .ensures, at-get-constant .get-constant .ensures, at-get-constant2 .get-constant2 .ensures)) (at-asks-bit .asks-bit .ensures ∙ rw (at-word .word .ensures))
+    let given = start .args .given .now in
+    let call = start .args .call .now in
+    λ h inputs dumps. at-finish .finish .ensures h inputs dumps ∙ two-is h given inputs (repliesIn given call) (start .args .result .now) (start .args .scratch .now) (walkIn (start .args .counters .now)) (waysBy given dumps call) (start .args .node) (start .args .rule) (start .args .x) (start .args .y) _ _ _ (at-reading-in .reading-in .ensures) (at-fold-two .fold-two .ensures ∙ rw (at-word .word .ensures, at-node-count .node-count .ensures, at-get-constant .get-constant .ensures, at-get-constant2 .get-constant2 .ensures)) (at-asks-bit .asks-bit .ensures ∙ rw (at-word .word .ensures))
 
 pub after-two-spec : {M : Type 1} → statement M
 after-two-spec = tie.close (tie.spec reading-in-requires node-count-requires word-requires element-copy-out-get-constant get-constant-requires element-copy-out-get-constant-2 get-constant-requires-2 fold-two-requires asks-bit-requires finish-requires same-length same-length-2 returns)

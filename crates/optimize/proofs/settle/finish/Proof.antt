@@ -32,7 +32,9 @@ returns c =
     let at-if1 = at-settle .before .before .before .before in
     let at-is-stays = at-if1 .before in
     let start = at-is-stays .before .before .before .before in
-    λ h inputs dumps. at-settle .settle .ensures h inputs _ (waysBy (start .args .given .now) dumps (start .args .call .now)) ∙ finish-folded (start .args .given .now) (waysBy (start .args .given .now) dumps (start .args .call .now)) (start .args .node) (view h (start .args .given .now) inputs (repliesIn (start .args .given .now) (start .args .call .now)) (start .args .result .now) (start .args .scratch .now) (walkIn (start .args .counters .now))) (foldIs (start .args .fold)) (bitOf (start .args .given .now) (waysBy (start .args .given .now) dumps (start .args .call .now)) (start .args .node) (start .args .bit)) (sym (at-is-stays .is-stays .ensures) ∙ not-true _ (at-if1 .if1 .taken))
+    let given = start .args .given .now in
+    let call = start .args .call .now in
+    λ h inputs dumps. at-settle .settle .ensures h inputs _ (waysBy given dumps call) ∙ finish-folded given (waysBy given dumps call) (start .args .node) (view h given inputs (repliesIn given call) (start .args .result .now) (start .args .scratch .now) (walkIn (start .args .counters .now))) (foldIs (start .args .fold)) (bitOf given (waysBy given dumps call) (start .args .node) (start .args .bit)) (sym (at-is-stays .is-stays .ensures) ∙ not-true _ (at-if1 .if1 .taken))
 
 minimises-requires : tie.Need-minimises-requires
 minimises-requires c κs = search needs
@@ -56,7 +58,9 @@ returns-2 c =
     let at-if1 = at-minimises .before in
     let at-is-stays = at-if1 .before in
     let start = at-is-stays .before .before .before .before in
-    λ h inputs dumps. at-settle2 .settle2 .ensures h inputs _ (waysBy (start .args .given .now) dumps (start .args .call .now)) ∙ finish-quiet (start .args .given .now) (waysBy (start .args .given .now) dumps (start .args .call .now)) (start .args .node) (view h (start .args .given .now) inputs (repliesIn (start .args .given .now) (start .args .call .now)) (start .args .result .now) (start .args .scratch .now) (walkIn (start .args .counters .now))) (foldIs (start .args .fold)) (bitOf (start .args .given .now) (waysBy (start .args .given .now) dumps (start .args .call .now)) (start .args .node) (start .args .bit)) (sym (at-is-stays .is-stays .ensures) ∙ not-false _ (at-if1 .if1 .left)) (sym (at-minimises .minimises .ensures) ∙ not-true _ (at-if2 .if2 .taken))
+    let given = start .args .given .now in
+    let call = start .args .call .now in
+    λ h inputs dumps. at-settle2 .settle2 .ensures h inputs _ (waysBy given dumps call) ∙ finish-quiet given (waysBy given dumps call) (start .args .node) (view h given inputs (repliesIn given call) (start .args .result .now) (start .args .scratch .now) (walkIn (start .args .counters .now))) (foldIs (start .args .fold)) (bitOf given (waysBy given dumps call) (start .args .node) (start .args .bit)) (sym (at-is-stays .is-stays .ensures) ∙ not-false _ (at-if1 .if1 .left)) (sym (at-minimises .minimises .ensures) ∙ not-true _ (at-if2 .if2 .taken))
 
 settle-requires-3 : tie.Need-settle-requires-3
 settle-requires-3 c κs =
@@ -78,7 +82,9 @@ returns-3 c =
     let at-if1 = at-minimises .before in
     let at-is-stays = at-if1 .before in
     let start = at-is-stays .before .before .before .before in
-    λ h inputs dumps. at-settle3 .settle3 .ensures h inputs _ (waysBy (start .args .given .now) dumps (start .args .call .now)) ∙ quiet-stays (start .args .given .now) (waysBy (start .args .given .now) dumps (start .args .call .now)) (start .args .node) (view h (start .args .given .now) inputs (repliesIn (start .args .given .now) (start .args .call .now)) (start .args .result .now) (start .args .scratch .now) (walkIn (start .args .counters .now))) (foldIs (start .args .fold)) (start .args .bit) (sym (at-minimises .minimises .ensures) ∙ not-false _ (at-if2 .if2 .left)) (sym (at-is-stays .is-stays .ensures) ∙ not-false _ (at-if1 .if1 .left)) (not-true _ (at-if3 .if3 .taken))
+    let given = start .args .given .now in
+    let call = start .args .call .now in
+    λ h inputs dumps. at-settle3 .settle3 .ensures h inputs _ (waysBy given dumps call) ∙ quiet-stays given (waysBy given dumps call) (start .args .node) (view h given inputs (repliesIn given call) (start .args .result .now) (start .args .scratch .now) (walkIn (start .args .counters .now))) (foldIs (start .args .fold)) (start .args .bit) (sym (at-minimises .minimises .ensures) ∙ not-false _ (at-if2 .if2 .left)) (sym (at-is-stays .is-stays .ensures) ∙ not-false _ (at-if1 .if1 .left)) (not-true _ (at-if3 .if3 .taken))
 
 replies-in-requires : tie.Need-replies-in-requires
 replies-in-requires c κs = search needs

@@ -49,7 +49,13 @@ returns c =
     let at-enum-told = at-settle .before .before .before .before in
     let at-get-constant = at-enum-told .before .before in
     let start = at-get-constant .before .before .before .before .before .before .before in
-    λ h inputs dumps. at-settle .settle .ensures h inputs (repliesIn (start .args .given .now) (start .args .call .now)) (waysBy (start .args .given .now) dumps (start .args .call .now)) ∙ forward-none h (start .args .given .now) inputs (repliesIn (start .args .given .now) (start .args .call .now)) (start .args .result .now) (start .args .scratch .now) (walkIn (start .args .counters .now)) (waysBy (start .args .given .now) dumps (start .args .call .now)) (start .args .node) (start .args .x) _ (at-enum-told .enum-told .given .1) ∙ read-is h (start .args .given .now) inputs (repliesIn (start .args .given .now) (start .args .call .now)) (start .args .result .now) (start .args .scratch .now) (walkIn (start .args .counters .now)) (waysBy (start .args .given .now) dumps (start .args .call .now)) (start .args .node) (start .args .x) (start .args .y) _ (at-get-constant .get-constant .ensures)
+    let given = start .args .given .now in
+    let call = start .args .call .now in
+    let result = start .args .result .now in
+    let scratch = start .args .scratch .now in
+    let counters = start .args .counters .now in
+    let replies = repliesIn given call in
+    λ h inputs dumps. at-settle .settle .ensures h inputs replies (waysBy given dumps call) ∙ forward-none h given inputs replies result scratch (walkIn counters) (waysBy given dumps call) (start .args .node) (start .args .x) _ (at-enum-told .enum-told .given .1) ∙ read-is h given inputs replies result scratch (walkIn counters) (waysBy given dumps call) (start .args .node) (start .args .x) (start .args .y) _ (at-get-constant .get-constant .ensures)
 
 element-copy-out-find-in-memory : tie.Need-element-copy-out-find-in-memory
 element-copy-out-find-in-memory c = search needs
@@ -107,7 +113,13 @@ returns-2 c =
     let at-get-constant = at-address .before .before in
     let at-reading-in = at-get-constant .before .before .before in
     let start = at-reading-in .before .before .before .before in
-    λ h inputs dumps. at-settle2 .settle2 .ensures h inputs (repliesIn (start .args .given .now) (start .args .call .now)) (waysBy (start .args .given .now) dumps (start .args .call .now)) ∙ forward-some h (start .args .given .now) inputs (repliesIn (start .args .given .now) (start .args .call .now)) (start .args .result .now) (start .args .scratch .now) (walkIn (start .args .counters .now)) (waysBy (start .args .given .now) dumps (start .args .call .now)) (start .args .node) (start .args .x) _ _ _ (at-find-in-memory .find-in-memory .result) _ _ _ (at-address .address .given .1) (at-reading-in .reading-in .ensures) (at-find-in-memory .find-in-memory .ensures .0) (sym (ap (λ z. passedBy (valueIs z) (at-find-in-memory .find-in-memory .result .passed)) (at-found .found .given .1))) (sym (ap (λ z. foldFound (valueIs z)) (at-found .found .given .1))) (ap (λ (w : Walk). view h (start .args .given .now) inputs (repliesIn (start .args .given .now) (start .args .call .now)) (start .args .result .now) (start .args .scratch .now) w) (walk-put (tallied (walkIn (start .args .counters .now)) (at-find-in-memory .find-in-memory .result .looked) (at-find-in-memory .find-in-memory .result .passed)) (start .args .counters .now) _ (at-tally .tally .ensures)) ∙ tally-is h (start .args .given .now) inputs (repliesIn (start .args .given .now) (start .args .call .now)) (start .args .result .now) (start .args .scratch .now) (walkIn (start .args .counters .now)) _ _) ∙ read-is h (start .args .given .now) inputs (repliesIn (start .args .given .now) (start .args .call .now)) (start .args .result .now) (start .args .scratch .now) (walkIn (start .args .counters .now)) (waysBy (start .args .given .now) dumps (start .args .call .now)) (start .args .node) (start .args .x) (start .args .y) _ (at-get-constant .get-constant .ensures)
+    let given = start .args .given .now in
+    let call = start .args .call .now in
+    let result = start .args .result .now in
+    let scratch = start .args .scratch .now in
+    let counters = start .args .counters .now in
+    let replies = repliesIn given call in
+    λ h inputs dumps. at-settle2 .settle2 .ensures h inputs replies (waysBy given dumps call) ∙ forward-some h given inputs replies result scratch (walkIn counters) (waysBy given dumps call) (start .args .node) (start .args .x) _ _ _ (at-find-in-memory .find-in-memory .result) _ _ _ (at-address .address .given .1) (at-reading-in .reading-in .ensures) (at-find-in-memory .find-in-memory .ensures .0) (sym (ap (λ z. passedBy (valueIs z) (at-find-in-memory .find-in-memory .result .passed)) (at-found .found .given .1))) (sym (ap (λ z. foldFound (valueIs z)) (at-found .found .given .1))) (ap (λ (w : Walk). view h given inputs replies result scratch w) (walk-put (tallied (walkIn counters) (at-find-in-memory .find-in-memory .result .looked) (at-find-in-memory .find-in-memory .result .passed)) counters _ (at-tally .tally .ensures)) ∙ tally-is h given inputs replies result scratch (walkIn counters) _ _) ∙ read-is h given inputs replies result scratch (walkIn counters) (waysBy given dumps call) (start .args .node) (start .args .x) (start .args .y) _ (at-get-constant .get-constant .ensures)
 
 same-length-5 : tie.Need-same-length-5
 same-length-5 c = search needs
@@ -125,7 +137,13 @@ returns-3 c =
     let at-get-constant = at-address .before .before in
     let at-reading-in = at-get-constant .before .before .before in
     let start = at-reading-in .before .before .before .before in
-    λ h inputs dumps. at-settle3 .settle3 .ensures h inputs (repliesIn (start .args .given .now) (start .args .call .now)) (waysBy (start .args .given .now) dumps (start .args .call .now)) ∙ forward-some h (start .args .given .now) inputs (repliesIn (start .args .given .now) (start .args .call .now)) (start .args .result .now) (start .args .scratch .now) (walkIn (start .args .counters .now)) (waysBy (start .args .given .now) dumps (start .args .call .now)) (start .args .node) (start .args .x) _ _ _ (at-find-in-memory .find-in-memory .result) _ _ _ (at-address .address .given .1) (at-reading-in .reading-in .ensures) (at-find-in-memory .find-in-memory .ensures .0) (sym (ap (λ z. passedBy (valueIs z) (at-find-in-memory .find-in-memory .result .passed)) (at-enum-told2 .enum-told2 .given .1))) (sym (ap (λ z. foldFound (valueIs z)) (at-enum-told2 .enum-told2 .given .1))) (ap (λ (w : Walk). view h (start .args .given .now) inputs (repliesIn (start .args .given .now) (start .args .call .now)) (start .args .result .now) (start .args .scratch .now) w) (walk-put (tallied (walkIn (start .args .counters .now)) (at-find-in-memory .find-in-memory .result .looked) 0) (start .args .counters .now) _ (at-tally2 .tally2 .ensures)) ∙ tally-is h (start .args .given .now) inputs (repliesIn (start .args .given .now) (start .args .call .now)) (start .args .result .now) (start .args .scratch .now) (walkIn (start .args .counters .now)) _ _) ∙ read-is h (start .args .given .now) inputs (repliesIn (start .args .given .now) (start .args .call .now)) (start .args .result .now) (start .args .scratch .now) (walkIn (start .args .counters .now)) (waysBy (start .args .given .now) dumps (start .args .call .now)) (start .args .node) (start .args .x) (start .args .y) _ (at-get-constant .get-constant .ensures)
+    let given = start .args .given .now in
+    let call = start .args .call .now in
+    let result = start .args .result .now in
+    let scratch = start .args .scratch .now in
+    let counters = start .args .counters .now in
+    let replies = repliesIn given call in
+    λ h inputs dumps. at-settle3 .settle3 .ensures h inputs replies (waysBy given dumps call) ∙ forward-some h given inputs replies result scratch (walkIn counters) (waysBy given dumps call) (start .args .node) (start .args .x) _ _ _ (at-find-in-memory .find-in-memory .result) _ _ _ (at-address .address .given .1) (at-reading-in .reading-in .ensures) (at-find-in-memory .find-in-memory .ensures .0) (sym (ap (λ z. passedBy (valueIs z) (at-find-in-memory .find-in-memory .result .passed)) (at-enum-told2 .enum-told2 .given .1))) (sym (ap (λ z. foldFound (valueIs z)) (at-enum-told2 .enum-told2 .given .1))) (ap (λ (w : Walk). view h given inputs replies result scratch w) (walk-put (tallied (walkIn counters) (at-find-in-memory .find-in-memory .result .looked) 0) counters _ (at-tally2 .tally2 .ensures)) ∙ tally-is h given inputs replies result scratch (walkIn counters) _ _) ∙ read-is h given inputs replies result scratch (walkIn counters) (waysBy given dumps call) (start .args .node) (start .args .x) (start .args .y) _ (at-get-constant .get-constant .ensures)
 
 pub read-spec : {M : Type 1} → statement M
 read-spec = tie.close (tie.spec reading-in-requires element-copy-out-get-constant get-constant-requires enum-known-address enum-told settle-requires same-length same-length-2 returns element-copy-out-find-in-memory find-in-memory-requires enum-known-found tally-requires settle-requires-2 enum-told-2 tally-requires-2 settle-requires-3 same-length-3 same-length-4 returns-2 same-length-5 same-length-6 returns-3)

@@ -34,7 +34,10 @@ returns c =
     let at-most-of = at-if1 .before in
     let at-reply-at = at-most-of .before in
     let start = at-reply-at .before .before .before .before .before .before in
-    ((λ h inputs R. asked-refuses h (start .args .given .now) inputs (start .args .replies .now) R (start .args .scratch .now) (start .args .counters .now) _ _ (Refusal.Reply (getD (start .args .counters .now) 2 0)) (c .refuse .ensures) ∙ ask-refused h (start .args .given .now) inputs (start .args .replies .now) R (start .args .scratch .now) (walkIn (start .args .counters .now)) _ _ _ _ _ (at-reply-at .reply-at .ensures .0) (at-most-of .most-of .ensures .0) (at-if1 .if1 .taken) (at-reply-at .reply-at .ensures .1 (omega arith))), (ap (λ D. getD D 0 0) (c .refuse .ensures), omega (arith, ap (λ D. getD D 3 0) (c .refuse .ensures))))
+    let given = start .args .given .now in
+    let scratch = start .args .scratch .now in
+    let counters = start .args .counters .now in
+    ((λ h inputs R. asked-refuses h given inputs (start .args .replies .now) R scratch counters _ _ (Refusal.Reply (getD counters 2 0)) (c .refuse .ensures) ∙ ask-refused h given inputs (start .args .replies .now) R scratch (walkIn counters) _ _ _ _ _ (at-reply-at .reply-at .ensures .0) (at-most-of .most-of .ensures .0) (at-if1 .if1 .taken) (at-reply-at .reply-at .ensures .1 (omega arith))), (ap (λ D. getD D 0 0) (c .refuse .ensures), omega (arith, ap (λ D. getD D 3 0) (c .refuse .ensures))))
 
 mul-at : tie.Need-mul-at
 mul-at c = search needs
@@ -105,7 +108,9 @@ returns-2 c =
     let at-reply-at = at-most-of .before in
     let at-node-count = at-reply-at .before .before in
     let start = at-node-count .before .before .before .before in
-    ((λ h inputs R. asked-replies h (start .args .given .now) inputs (start .args .replies .now) R _ (start .args .counters .now) _ _ (oneAsked (walkIn (start .args .counters .now)) (c .before .used-then .result)) (c .asked-one .ensures) (start .pre .1 .1) ∙ ask-done h (start .args .given .now) inputs (start .args .replies .now) R (start .args .scratch .now) (walkIn (start .args .counters .now)) _ _ _ _ _ (at-reply-at .reply-at .ensures .0) (at-most-of .most-of .ensures .0) _ _ _ _ (at-if1 .if1 .left) (at-node-count .node-count .ensures) (at-wide .wide .ensures) (at-wide2 .wide2 .ensures) (c .before .used-then .ensures) (omega arith)), (ap (λ D. getD D 0 0) (c .asked-one .ensures), omega (arith, ap (λ D. getD D 3 0) (c .asked-one .ensures))))
+    let given = start .args .given .now in
+    let counters = start .args .counters .now in
+    ((λ h inputs R. asked-replies h given inputs (start .args .replies .now) R _ counters _ _ (oneAsked (walkIn counters) (c .before .used-then .result)) (c .asked-one .ensures) (start .pre .1 .1) ∙ ask-done h given inputs (start .args .replies .now) R (start .args .scratch .now) (walkIn counters) _ _ _ _ _ (at-reply-at .reply-at .ensures .0) (at-most-of .most-of .ensures .0) _ _ _ _ (at-if1 .if1 .left) (at-node-count .node-count .ensures) (at-wide .wide .ensures) (at-wide2 .wide2 .ensures) (c .before .used-then .ensures) (omega arith)), (ap (λ D. getD D 0 0) (c .asked-one .ensures), omega (arith, ap (λ D. getD D 3 0) (c .asked-one .ensures))))
 
 pub ask-spec : {M : Type 1} → statement M
 ask-spec = tie.close (tie.spec node-count-requires element-copy-out-used reply-at-requires most-of-requires refuse-requires returns mul-at element-copy-out-at mul-at-2 add-at mul-scratch slice-write-scratch wide-requires add-scratch mul-scratch-2 slice-write-scratch-2 wide-requires-2 add-scratch-2 mul-scratch-3 slice-write-scratch-3 add-scratch-3 mul-scratch-4 slice-write-scratch-4 used-then-requires asked-one-requires same-length returns-2)

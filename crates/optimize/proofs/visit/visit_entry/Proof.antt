@@ -31,7 +31,9 @@ process-requires c κs =
     let at-if1 = c .before .before .before in
     let at-put-walk = at-if1 .before .before in
     let start = at-put-walk .before .before .before .before .before in
-    ((subst (λ w. Laid (start .args .given .now) (start .args .dumps .now) (inputsIn (start .args .given .now) (start .args .call .now)) (repliesIn (start .args .given .now) (start .args .call .now)) (modeIn (start .args .call .now)) 0 (start .args .result .now) (start .args .scratch .now) w) (sym (ap walkIn (at-put-walk .put-walk .ensures))) (start .pre .0)), ((start .pre .1), (mark-0 _ _ _ (start .pre .1) (at-if1 .if1 .taken), (ap refusedIn (at-put-walk .put-walk .ensures)))))
+    let given = start .args .given .now in
+    let call = start .args .call .now in
+    ((subst (λ w. Laid given (start .args .dumps .now) (inputsIn given call) (repliesIn given call) (modeIn call) 0 (start .args .result .now) (start .args .scratch .now) w) (sym (ap walkIn (at-put-walk .put-walk .ensures))) (start .pre .0)), ((start .pre .1), (mark-0 _ _ _ (start .pre .1) (at-if1 .if1 .taken), (ap refusedIn (at-put-walk .put-walk .ensures)))))
 
 visited-in-requires : tie.Need-visited-in-requires
 visited-in-requires c κs = search needs
@@ -52,13 +54,23 @@ returns c =
     let at-if1 = at-process .before .before .before .before in
     let at-put-walk = at-if1 .before .before in
     let start = at-put-walk .before .before .before .before .before in
-    λ h. deep (λ f. Meets (start .args .given .now) (inputsIn (start .args .given .now) (start .args .call .now)) (repliesIn (start .args .given .now) (start .args .call .now)) _ _ _ (visitOf (start .args .given .now) (waysBy (start .args .given .now) (start .args .dumps .now) (start .args .call .now)) f (view h (start .args .given .now) (inputsIn (start .args .given .now) (start .args .call .now)) (repliesIn (start .args .given .now) (start .args .call .now)) (start .args .result .now) (start .args .scratch .now) (start .args .walk)) (start .args .node))) (start .args .node) (λ f l. again-fresh (start .args .given .now) (inputsIn (start .args .given .now) (start .args .call .now)) (repliesIn (start .args .given .now) (start .args .call .now)) (start .args .result .now) (start .args .scratch .now) (start .args .walk) (waysBy (start .args .given .now) (start .args .dumps .now) (start .args .call .now)) f h (start .args .node) (start .pre .1) _ _ _ (at-if1 .if1 .taken) (entered (start .args .given .now) (inputsIn (start .args .given .now) (start .args .call .now)) (repliesIn (start .args .given .now) (start .args .call .now)) (start .args .result .now) (start .args .scratch .now) _ _ _ _ _ _ _ (λ f σ. processOf (start .args .given .now) (waysBy (start .args .given .now) (start .args .dumps .now) (start .args .call .now)) (visitOf (start .args .given .now) (waysBy (start .args .given .now) (start .args .dumps .now) (start .args .call .now)) f) σ (start .args .node)) (ap walkIn (at-put-walk .put-walk .ensures)) (c .visited-in .ensures) (at-process .process .ensures) h f l))
+    let given = start .args .given .now in
+    let call = start .args .call .now in
+    let dumps = start .args .dumps .now in
+    let result = start .args .result .now in
+    let scratch = start .args .scratch .now in
+    let inputs = inputsIn given call in
+    let replies = repliesIn given call in
+    let ways = waysBy given dumps call in
+    λ h. deep (λ f. Meets given inputs replies _ _ _ (visitOf given ways f (view h given inputs replies result scratch (start .args .walk)) (start .args .node))) (start .args .node) (λ f l. again-fresh given inputs replies result scratch (start .args .walk) ways f h (start .args .node) (start .pre .1) _ _ _ (at-if1 .if1 .taken) (entered given inputs replies result scratch _ _ _ _ _ _ _ (λ f σ. processOf given ways (visitOf given ways f) σ (start .args .node)) (ap walkIn (at-put-walk .put-walk .ensures)) (c .visited-in .ensures) (at-process .process .ensures) h f l))
 
 visit-requires : tie.Need-visit-requires
 visit-requires c κs =
     let at-put-walk = c .before .before .before .before .before in
     let start = at-put-walk .before .before .before .before .before in
-    ((subst (λ w. Laid (start .args .given .now) (start .args .dumps .now) (inputsIn (start .args .given .now) (start .args .call .now)) (repliesIn (start .args .given .now) (start .args .call .now)) (modeIn (start .args .call .now)) 0 (start .args .result .now) (start .args .scratch .now) w) (sym (ap walkIn (at-put-walk .put-walk .ensures))) (start .pre .0)), ((start .pre .1), (ap refusedIn (at-put-walk .put-walk .ensures))))
+    let given = start .args .given .now in
+    let call = start .args .call .now in
+    ((subst (λ w. Laid given (start .args .dumps .now) (inputsIn given call) (repliesIn given call) (modeIn call) 0 (start .args .result .now) (start .args .scratch .now) w) (sym (ap walkIn (at-put-walk .put-walk .ensures))) (start .pre .0)), ((start .pre .1), (ap refusedIn (at-put-walk .put-walk .ensures))))
 
 visited-in-requires-2 : tie.Need-visited-in-requires-2
 visited-in-requires-2 c κs = search needs
@@ -78,7 +90,9 @@ returns-2 c =
     let at-visit = c .before .before .before .before .before .before in
     let at-put-walk = at-visit .before .before .before .before .before .before in
     let start = at-put-walk .before .before .before .before .before in
-    entered (start .args .given .now) (inputsIn (start .args .given .now) (start .args .call .now)) (repliesIn (start .args .given .now) (start .args .call .now)) (start .args .result .now) (start .args .scratch .now) _ _ _ _ _ _ _ (λ f σ. visitOf (start .args .given .now) (waysBy (start .args .given .now) (start .args .dumps .now) (start .args .call .now)) f σ (start .args .node)) (ap walkIn (at-put-walk .put-walk .ensures)) (c .visited-in2 .ensures) (at-visit .visit .ensures)
+    let given = start .args .given .now in
+    let call = start .args .call .now in
+    entered given (inputsIn given call) (repliesIn given call) (start .args .result .now) (start .args .scratch .now) _ _ _ _ _ _ _ (λ f σ. visitOf given (waysBy given (start .args .dumps .now) call) f σ (start .args .node)) (ap walkIn (at-put-walk .put-walk .ensures)) (c .visited-in2 .ensures) (at-visit .visit .ensures)
 
 pub visit-entry-spec : {M : Type 1} → statement M
 visit-entry-spec = tie.close (tie.spec put-walk-requires mul-if1 slice-read-if1 process-requires visited-in-requires same-length same-length-2 returns visit-requires visited-in-requires-2 same-length-3 same-length-4 returns-2)

@@ -139,7 +139,13 @@ module _ (t : ℕ) where
       let at-enum-told = at-settle-const .before .before .before .before in
       let at-form-at = at-enum-told .before .before in
       let start = at-form-at .before .before .before .before in
-      λ h f l. (h, at-settle-const .settle-const .ensures h (inputsIn (start .args .given .now) (start .args .call .now)) (repliesIn (start .args .given .now) (start .args .call .now)) (waysBy (start .args .given .now) (start .args .dumps .now) (start .args .call .now)) ∙ process-is (start .args .given .now) (waysBy (start .args .given .now) (start .args .dumps .now) (start .args .call .now)) (visitOf (start .args .given .now) (waysBy (start .args .given .now) (start .args .dumps .now) (start .args .call .now)) f) (view h (start .args .given .now) (inputsIn (start .args .given .now) (start .args .call .now)) (repliesIn (start .args .given .now) (start .args .call .now)) (start .args .result .now) (start .args .scratch .now) (walkIn (start .args .counters .now))) (start .args .node) _ (sym (at-enum-told .enum-told .given .1) ∙ at-form-at .form-at .ensures))
+      let given = start .args .given .now in
+      let call = start .args .call .now in
+      let dumps = start .args .dumps .now in
+      let inputs = inputsIn given call in
+      let replies = repliesIn given call in
+      let ways = waysBy given dumps call in
+      λ h f l. (h, at-settle-const .settle-const .ensures h inputs replies ways ∙ process-is given ways (visitOf given ways f) (view h given inputs replies (start .args .result .now) (start .args .scratch .now) (walkIn (start .args .counters .now))) (start .args .node) _ (sym (at-enum-told .enum-told .given .1) ∙ at-form-at .form-at .ensures))
 
   same-length-3 : lts.Need-same-length-3 claims (process-at t) process.Post
   same-length-3 c =
@@ -158,7 +164,13 @@ module _ (t : ℕ) where
       let at-enum-told2 = at-settle .before .before .before .before in
       let at-form-at = at-enum-told2 .before .before in
       let start = at-form-at .before .before .before .before in
-      λ h f l. (h, at-settle .settle .ensures h (inputsIn (start .args .given .now) (start .args .call .now)) (repliesIn (start .args .given .now) (start .args .call .now)) (waysBy (start .args .given .now) (start .args .dumps .now) (start .args .call .now)) ∙ process-is (start .args .given .now) (waysBy (start .args .given .now) (start .args .dumps .now) (start .args .call .now)) (visitOf (start .args .given .now) (waysBy (start .args .given .now) (start .args .dumps .now) (start .args .call .now)) f) (view h (start .args .given .now) (inputsIn (start .args .given .now) (start .args .call .now)) (repliesIn (start .args .given .now) (start .args .call .now)) (start .args .result .now) (start .args .scratch .now) (walkIn (start .args .counters .now))) (start .args .node) _ (sym (at-enum-told2 .enum-told2 .given .1) ∙ at-form-at .form-at .ensures))
+      let given = start .args .given .now in
+      let call = start .args .call .now in
+      let dumps = start .args .dumps .now in
+      let inputs = inputsIn given call in
+      let replies = repliesIn given call in
+      let ways = waysBy given dumps call in
+      λ h f l. (h, at-settle .settle .ensures h inputs replies ways ∙ process-is given ways (visitOf given ways f) (view h given inputs replies (start .args .result .now) (start .args .scratch .now) (walkIn (start .args .counters .now))) (start .args .node) _ (sym (at-enum-told2 .enum-told2 .given .1) ∙ at-form-at .form-at .ensures))
 
   same-length-5 : lts.Need-same-length-5 claims (process-at t) process.Post
   same-length-5 c =
@@ -178,7 +190,15 @@ module _ (t : ℕ) where
       let at-enum-told3 = at-inputs-in .before in
       let at-form-at = at-enum-told3 .before .before in
       let start = at-form-at .before .before .before .before in
-      λ h f l. let m = take-by h (start .args .given .now) _ _ (repliesIn (start .args .given .now) (start .args .call .now)) (start .args .result .now) (start .args .scratch .now) (walkIn (start .args .counters .now)) (waysBy (start .args .given .now) (start .args .dumps .now) (start .args .call .now)) (start .args .node) _ _ _ (at-inputs-in .inputs-in .ensures) (at-take-input .take-input .ensures h (repliesIn (start .args .given .now) (start .args .call .now)) (modeIn (start .args .call .now))) in (m .0, m .1 ∙ process-is (start .args .given .now) (waysBy (start .args .given .now) (start .args .dumps .now) (start .args .call .now)) (visitOf (start .args .given .now) (waysBy (start .args .given .now) (start .args .dumps .now) (start .args .call .now)) f) (view h (start .args .given .now) (inputsIn (start .args .given .now) (start .args .call .now)) (repliesIn (start .args .given .now) (start .args .call .now)) (start .args .result .now) (start .args .scratch .now) (walkIn (start .args .counters .now))) (start .args .node) _ (sym (at-enum-told3 .enum-told3 .given .1) ∙ at-form-at .form-at .ensures))
+      let given = start .args .given .now in
+      let call = start .args .call .now in
+      let dumps = start .args .dumps .now in
+      let result = start .args .result .now in
+      let scratch = start .args .scratch .now in
+      let counters = start .args .counters .now in
+      let replies = repliesIn given call in
+      let ways = waysBy given dumps call in
+      λ h f l. let m = take-by h given _ _ replies result scratch (walkIn counters) ways (start .args .node) _ _ _ (at-inputs-in .inputs-in .ensures) (at-take-input .take-input .ensures h replies (modeIn call)) in (m .0, m .1 ∙ process-is given ways (visitOf given ways f) (view h given (inputsIn given call) replies result scratch (walkIn counters)) (start .args .node) _ (sym (at-enum-told3 .enum-told3 .given .1) ∙ at-form-at .form-at .ensures))
 
   same-length-7 : lts.Need-same-length-7 claims (process-at t) process.Post
   same-length-7 c =
@@ -197,7 +217,11 @@ module _ (t : ℕ) where
       let at-rule = at-process-one .before .before .before .before .before in
       let at-form-at = at-rule .before .before in
       let start = at-form-at .before .before .before .before in
-      λ h f l. let m = at-process-one .process-one .ensures h f l in (m .0, m .1 ∙ process-is (start .args .given .now) (waysBy (start .args .given .now) (start .args .dumps .now) (start .args .call .now)) (visitOf (start .args .given .now) (waysBy (start .args .given .now) (start .args .dumps .now) (start .args .call .now)) f) (view h (start .args .given .now) (inputsIn (start .args .given .now) (start .args .call .now)) (repliesIn (start .args .given .now) (start .args .call .now)) (start .args .result .now) (start .args .scratch .now) (walkIn (start .args .counters .now))) (start .args .node) _ (sym (at-rule .rule .given .1) ∙ at-form-at .form-at .ensures))
+      let given = start .args .given .now in
+      let call = start .args .call .now in
+      let dumps = start .args .dumps .now in
+      let ways = waysBy given dumps call in
+      λ h f l. let m = at-process-one .process-one .ensures h f l in (m .0, m .1 ∙ process-is given ways (visitOf given ways f) (view h given (inputsIn given call) (repliesIn given call) (start .args .result .now) (start .args .scratch .now) (walkIn (start .args .counters .now))) (start .args .node) _ (sym (at-rule .rule .given .1) ∙ at-form-at .form-at .ensures))
 
   same-length-9 : lts.Need-same-length-9 claims (process-at t) process.Post
   same-length-9 c =
@@ -216,7 +240,11 @@ module _ (t : ℕ) where
       let at-rule2 = at-process-two .before .before .before .before .before in
       let at-form-at = at-rule2 .before .before in
       let start = at-form-at .before .before .before .before in
-      λ h f l. let m = at-process-two .process-two .ensures h f l in (m .0, m .1 ∙ process-is (start .args .given .now) (waysBy (start .args .given .now) (start .args .dumps .now) (start .args .call .now)) (visitOf (start .args .given .now) (waysBy (start .args .given .now) (start .args .dumps .now) (start .args .call .now)) f) (view h (start .args .given .now) (inputsIn (start .args .given .now) (start .args .call .now)) (repliesIn (start .args .given .now) (start .args .call .now)) (start .args .result .now) (start .args .scratch .now) (walkIn (start .args .counters .now))) (start .args .node) _ (sym (at-rule2 .rule2 .given .1) ∙ at-form-at .form-at .ensures))
+      let given = start .args .given .now in
+      let call = start .args .call .now in
+      let dumps = start .args .dumps .now in
+      let ways = waysBy given dumps call in
+      λ h f l. let m = at-process-two .process-two .ensures h f l in (m .0, m .1 ∙ process-is given ways (visitOf given ways f) (view h given (inputsIn given call) (repliesIn given call) (start .args .result .now) (start .args .scratch .now) (walkIn (start .args .counters .now))) (start .args .node) _ (sym (at-rule2 .rule2 .given .1) ∙ at-form-at .form-at .ensures))
 
   same-length-11 : lts.Need-same-length-11 claims (process-at t) process.Post
   same-length-11 c =
@@ -235,7 +263,11 @@ module _ (t : ℕ) where
       let at-enum-told4 = at-process-read .before .before .before .before in
       let at-form-at = at-enum-told4 .before .before in
       let start = at-form-at .before .before .before .before in
-      λ h f l. let m = at-process-read .process-read .ensures h f l in (m .0, m .1 ∙ process-is (start .args .given .now) (waysBy (start .args .given .now) (start .args .dumps .now) (start .args .call .now)) (visitOf (start .args .given .now) (waysBy (start .args .given .now) (start .args .dumps .now) (start .args .call .now)) f) (view h (start .args .given .now) (inputsIn (start .args .given .now) (start .args .call .now)) (repliesIn (start .args .given .now) (start .args .call .now)) (start .args .result .now) (start .args .scratch .now) (walkIn (start .args .counters .now))) (start .args .node) _ (sym (at-enum-told4 .enum-told4 .given .1) ∙ at-form-at .form-at .ensures))
+      let given = start .args .given .now in
+      let call = start .args .call .now in
+      let dumps = start .args .dumps .now in
+      let ways = waysBy given dumps call in
+      λ h f l. let m = at-process-read .process-read .ensures h f l in (m .0, m .1 ∙ process-is given ways (visitOf given ways f) (view h given (inputsIn given call) (repliesIn given call) (start .args .result .now) (start .args .scratch .now) (walkIn (start .args .counters .now))) (start .args .node) _ (sym (at-enum-told4 .enum-told4 .given .1) ∙ at-form-at .form-at .ensures))
 
   same-length-13 : lts.Need-same-length-13 claims (process-at t) process.Post
   same-length-13 c =
@@ -254,7 +286,11 @@ module _ (t : ℕ) where
       let at-enum-told5 = at-process-three .before .before .before .before in
       let at-form-at = at-enum-told5 .before .before in
       let start = at-form-at .before .before .before .before in
-      λ h f l. let m = at-process-three .process-three .ensures h f l in (m .0, m .1 ∙ process-is (start .args .given .now) (waysBy (start .args .given .now) (start .args .dumps .now) (start .args .call .now)) (visitOf (start .args .given .now) (waysBy (start .args .given .now) (start .args .dumps .now) (start .args .call .now)) f) (view h (start .args .given .now) (inputsIn (start .args .given .now) (start .args .call .now)) (repliesIn (start .args .given .now) (start .args .call .now)) (start .args .result .now) (start .args .scratch .now) (walkIn (start .args .counters .now))) (start .args .node) _ (sym (at-enum-told5 .enum-told5 .given .1) ∙ at-form-at .form-at .ensures))
+      let given = start .args .given .now in
+      let call = start .args .call .now in
+      let dumps = start .args .dumps .now in
+      let ways = waysBy given dumps call in
+      λ h f l. let m = at-process-three .process-three .ensures h f l in (m .0, m .1 ∙ process-is given ways (visitOf given ways f) (view h given (inputsIn given call) (repliesIn given call) (start .args .result .now) (start .args .scratch .now) (walkIn (start .args .counters .now))) (start .args .node) _ (sym (at-enum-told5 .enum-told5 .given .1) ∙ at-form-at .form-at .ensures))
 
   same-length-15 : lts.Need-same-length-15 claims (process-at t) process.Post
   same-length-15 c =
@@ -273,7 +309,11 @@ module _ (t : ℕ) where
       let at-enum-told6 = at-process-ite .before .before .before .before in
       let at-form-at = at-enum-told6 .before .before in
       let start = at-form-at .before .before .before .before in
-      λ h f l. let m = at-process-ite .process-ite .ensures h f l in (m .0, m .1 ∙ process-is (start .args .given .now) (waysBy (start .args .given .now) (start .args .dumps .now) (start .args .call .now)) (visitOf (start .args .given .now) (waysBy (start .args .given .now) (start .args .dumps .now) (start .args .call .now)) f) (view h (start .args .given .now) (inputsIn (start .args .given .now) (start .args .call .now)) (repliesIn (start .args .given .now) (start .args .call .now)) (start .args .result .now) (start .args .scratch .now) (walkIn (start .args .counters .now))) (start .args .node) _ (sym (at-enum-told6 .enum-told6 .given .1) ∙ at-form-at .form-at .ensures))
+      let given = start .args .given .now in
+      let call = start .args .call .now in
+      let dumps = start .args .dumps .now in
+      let ways = waysBy given dumps call in
+      λ h f l. let m = at-process-ite .process-ite .ensures h f l in (m .0, m .1 ∙ process-is given ways (visitOf given ways f) (view h given (inputsIn given call) (repliesIn given call) (start .args .result .now) (start .args .scratch .now) (walkIn (start .args .counters .now))) (start .args .node) _ (sym (at-enum-told6 .enum-told6 .given .1) ∙ at-form-at .form-at .ensures))
 
   same-length-17 : lts.Need-same-length-17 claims (process-at t) process.Post
   same-length-17 c =
@@ -292,7 +332,11 @@ module _ (t : ℕ) where
       let at-enum-told7 = at-process-next .before .before .before .before in
       let at-form-at = at-enum-told7 .before .before in
       let start = at-form-at .before .before .before .before in
-      λ h f l. let m = at-process-next .process-next .ensures h f l in (m .0, m .1 ∙ process-is (start .args .given .now) (waysBy (start .args .given .now) (start .args .dumps .now) (start .args .call .now)) (visitOf (start .args .given .now) (waysBy (start .args .given .now) (start .args .dumps .now) (start .args .call .now)) f) (view h (start .args .given .now) (inputsIn (start .args .given .now) (start .args .call .now)) (repliesIn (start .args .given .now) (start .args .call .now)) (start .args .result .now) (start .args .scratch .now) (walkIn (start .args .counters .now))) (start .args .node) _ (sym (at-enum-told7 .enum-told7 .given .1) ∙ at-form-at .form-at .ensures))
+      let given = start .args .given .now in
+      let call = start .args .call .now in
+      let dumps = start .args .dumps .now in
+      let ways = waysBy given dumps call in
+      λ h f l. let m = at-process-next .process-next .ensures h f l in (m .0, m .1 ∙ process-is given ways (visitOf given ways f) (view h given (inputsIn given call) (repliesIn given call) (start .args .result .now) (start .args .scratch .now) (walkIn (start .args .counters .now))) (start .args .node) _ (sym (at-enum-told7 .enum-told7 .given .1) ∙ at-form-at .form-at .ensures))
 
   pub proved : {M : Type 1} → lts.Closed claims (process-at t) process.Post M
   proved = lts.spec claims (process-at t) process.Post form-at-requires enum-told settle-const-requires enum-told-2 settle-requires enum-told-3 inputs-in-requires take-input-requires enum-known-rule process-one-requires enum-known-rule-2 process-two-requires enum-told-4 process-read-requires enum-told-5 process-three-requires enum-told-6 process-ite-requires enum-told-7 process-next-requires same-length same-length-2 returns same-length-3 same-length-4 returns-2 same-length-5 same-length-6 returns-3 same-length-7 same-length-8 returns-4 same-length-9 same-length-10 returns-5 same-length-11 same-length-12 returns-6 same-length-13 same-length-14 returns-7 same-length-15 same-length-16 returns-8 same-length-17 same-length-18 returns-9

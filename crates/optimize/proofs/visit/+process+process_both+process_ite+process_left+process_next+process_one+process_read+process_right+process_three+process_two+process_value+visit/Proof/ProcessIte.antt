@@ -57,7 +57,13 @@ module _ (t : ℕ) where
       let at-visit = c .before .before .before .before .before .before .before in
       let at-operand = at-visit .before in
       let start = at-operand .before .before .before .before .before .before .before in
-      λ h f l. ite-stop (start .args .given .now) (inputsIn (start .args .given .now) (start .args .call .now)) (repliesIn (start .args .given .now) (start .args .call .now)) (waysBy (start .args .given .now) (start .args .dumps .now) (start .args .call .now)) (visitOf (start .args .given .now) (waysBy (start .args .given .now) (start .args .dumps .now) (start .args .call .now)) f) (start .args .node) (view h (start .args .given .now) (inputsIn (start .args .given .now) (start .args .call .now)) (repliesIn (start .args .given .now) (start .args .call .now)) (start .args .result .now) (start .args .scratch .now) (walkIn (start .args .counters .now))) _ _ _ _ _ _ _ (at-visit .visit .ensures h f (omega (arith, at-operand .operand .ensures, (start .pre .1 .1 .1 .1 .0), l))) (stopped _ _ _ (c .before .is-refused .ensures) (c .if1 .taken)) (at-operand .operand .ensures)
+      let given = start .args .given .now in
+      let call = start .args .call .now in
+      let dumps = start .args .dumps .now in
+      let inputs = inputsIn given call in
+      let replies = repliesIn given call in
+      let ways = waysBy given dumps call in
+      λ h f l. ite-stop given inputs replies ways (visitOf given ways f) (start .args .node) (view h given inputs replies (start .args .result .now) (start .args .scratch .now) (walkIn (start .args .counters .now))) _ _ _ _ _ _ _ (at-visit .visit .ensures h f (omega (arith, at-operand .operand .ensures, (start .pre .1 .1 .1 .1 .0), l))) (stopped _ _ _ (c .before .is-refused .ensures) (c .if1 .taken)) (at-operand .operand .ensures)
 
   element-copy-out-get-constant : lts.Need-element-copy-out-get-constant claims (process-ite-at t) process-ite.Post
   element-copy-out-get-constant c = search needs
@@ -134,7 +140,13 @@ module _ (t : ℕ) where
       let at-visit = at-is-refused .before .before .before .before .before .before in
       let at-operand = at-visit .before in
       let start = at-operand .before .before .before .before .before .before .before in
-      λ h f l. let m = at-visit .visit .ensures h f (omega (arith, at-operand .operand .ensures, (start .pre .1 .1 .1 .1 .0), l)) in ite-at (start .args .given .now) (inputsIn (start .args .given .now) (start .args .call .now)) (repliesIn (start .args .given .now) (start .args .call .now)) (waysBy (start .args .given .now) (start .args .dumps .now) (start .args .call .now)) (visitOf (start .args .given .now) (waysBy (start .args .given .now) (start .args .dumps .now) (start .args .call .now)) f) (start .args .node) (view h (start .args .given .now) (inputsIn (start .args .given .now) (start .args .call .now)) (repliesIn (start .args .given .now) (start .args .call .now)) (start .args .result .now) (start .args .scratch .now) (walkIn (start .args .counters .now))) _ _ _ _ _ _ _ _ _ (at-get-constant .get-constant .result) left (came-done _ _ _ _ _ _ _ m _ _ (went _ _ _ (at-is-refused .is-refused .ensures) (at-if1 .if1 .left))) (at-operand .operand .ensures) (at-get-constant .get-constant .ensures) (sym (at-choice-of .choice-of .ensures) ∙ ap choiceIs (at-enum-told .enum-told .given .1)) (at-process-left .process-left .ensures (m .0) f l)
+      let given = start .args .given .now in
+      let call = start .args .call .now in
+      let dumps = start .args .dumps .now in
+      let inputs = inputsIn given call in
+      let replies = repliesIn given call in
+      let ways = waysBy given dumps call in
+      λ h f l. let m = at-visit .visit .ensures h f (omega (arith, at-operand .operand .ensures, (start .pre .1 .1 .1 .1 .0), l)) in ite-at given inputs replies ways (visitOf given ways f) (start .args .node) (view h given inputs replies (start .args .result .now) (start .args .scratch .now) (walkIn (start .args .counters .now))) _ _ _ _ _ _ _ _ _ (at-get-constant .get-constant .result) left (came-done _ _ _ _ _ _ _ m _ _ (went _ _ _ (at-is-refused .is-refused .ensures) (at-if1 .if1 .left))) (at-operand .operand .ensures) (at-get-constant .get-constant .ensures) (sym (at-choice-of .choice-of .ensures) ∙ ap choiceIs (at-enum-told .enum-told .given .1)) (at-process-left .process-left .ensures (m .0) f l)
 
   same-length-5 : lts.Need-same-length-5 claims (process-ite-at t) process-ite.Post
   same-length-5 c =
@@ -160,7 +172,13 @@ module _ (t : ℕ) where
       let at-visit = at-is-refused .before .before .before .before .before .before in
       let at-operand = at-visit .before in
       let start = at-operand .before .before .before .before .before .before .before in
-      λ h f l. let m = at-visit .visit .ensures h f (omega (arith, at-operand .operand .ensures, (start .pre .1 .1 .1 .1 .0), l)) in ite-at (start .args .given .now) (inputsIn (start .args .given .now) (start .args .call .now)) (repliesIn (start .args .given .now) (start .args .call .now)) (waysBy (start .args .given .now) (start .args .dumps .now) (start .args .call .now)) (visitOf (start .args .given .now) (waysBy (start .args .given .now) (start .args .dumps .now) (start .args .call .now)) f) (start .args .node) (view h (start .args .given .now) (inputsIn (start .args .given .now) (start .args .call .now)) (repliesIn (start .args .given .now) (start .args .call .now)) (start .args .result .now) (start .args .scratch .now) (walkIn (start .args .counters .now))) _ _ _ _ _ _ _ _ _ (at-get-constant .get-constant .result) right (came-done _ _ _ _ _ _ _ m _ _ (went _ _ _ (at-is-refused .is-refused .ensures) (at-if1 .if1 .left))) (at-operand .operand .ensures) (at-get-constant .get-constant .ensures) (sym (at-choice-of .choice-of .ensures) ∙ ap choiceIs (at-enum-told2 .enum-told2 .given .1)) (at-process-right .process-right .ensures (m .0) f l)
+      let given = start .args .given .now in
+      let call = start .args .call .now in
+      let dumps = start .args .dumps .now in
+      let inputs = inputsIn given call in
+      let replies = repliesIn given call in
+      let ways = waysBy given dumps call in
+      λ h f l. let m = at-visit .visit .ensures h f (omega (arith, at-operand .operand .ensures, (start .pre .1 .1 .1 .1 .0), l)) in ite-at given inputs replies ways (visitOf given ways f) (start .args .node) (view h given inputs replies (start .args .result .now) (start .args .scratch .now) (walkIn (start .args .counters .now))) _ _ _ _ _ _ _ _ _ (at-get-constant .get-constant .result) right (came-done _ _ _ _ _ _ _ m _ _ (went _ _ _ (at-is-refused .is-refused .ensures) (at-if1 .if1 .left))) (at-operand .operand .ensures) (at-get-constant .get-constant .ensures) (sym (at-choice-of .choice-of .ensures) ∙ ap choiceIs (at-enum-told2 .enum-told2 .given .1)) (at-process-right .process-right .ensures (m .0) f l)
 
   same-length-7 : lts.Need-same-length-7 claims (process-ite-at t) process-ite.Post
   same-length-7 c =
@@ -186,7 +204,13 @@ module _ (t : ℕ) where
       let at-visit = at-is-refused .before .before .before .before .before .before in
       let at-operand = at-visit .before in
       let start = at-operand .before .before .before .before .before .before .before in
-      λ h f l. let m = at-visit .visit .ensures h f (omega (arith, at-operand .operand .ensures, (start .pre .1 .1 .1 .1 .0), l)) in ite-at (start .args .given .now) (inputsIn (start .args .given .now) (start .args .call .now)) (repliesIn (start .args .given .now) (start .args .call .now)) (waysBy (start .args .given .now) (start .args .dumps .now) (start .args .call .now)) (visitOf (start .args .given .now) (waysBy (start .args .given .now) (start .args .dumps .now) (start .args .call .now)) f) (start .args .node) (view h (start .args .given .now) (inputsIn (start .args .given .now) (start .args .call .now)) (repliesIn (start .args .given .now) (start .args .call .now)) (start .args .result .now) (start .args .scratch .now) (walkIn (start .args .counters .now))) _ _ _ _ _ _ _ _ _ (at-get-constant .get-constant .result) undecided (came-done _ _ _ _ _ _ _ m _ _ (went _ _ _ (at-is-refused .is-refused .ensures) (at-if1 .if1 .left))) (at-operand .operand .ensures) (at-get-constant .get-constant .ensures) (sym (at-choice-of .choice-of .ensures) ∙ ap choiceIs (at-enum-told3 .enum-told3 .given .1)) (at-process-both .process-both .ensures (m .0) f l)
+      let given = start .args .given .now in
+      let call = start .args .call .now in
+      let dumps = start .args .dumps .now in
+      let inputs = inputsIn given call in
+      let replies = repliesIn given call in
+      let ways = waysBy given dumps call in
+      λ h f l. let m = at-visit .visit .ensures h f (omega (arith, at-operand .operand .ensures, (start .pre .1 .1 .1 .1 .0), l)) in ite-at given inputs replies ways (visitOf given ways f) (start .args .node) (view h given inputs replies (start .args .result .now) (start .args .scratch .now) (walkIn (start .args .counters .now))) _ _ _ _ _ _ _ _ _ (at-get-constant .get-constant .result) undecided (came-done _ _ _ _ _ _ _ m _ _ (went _ _ _ (at-is-refused .is-refused .ensures) (at-if1 .if1 .left))) (at-operand .operand .ensures) (at-get-constant .get-constant .ensures) (sym (at-choice-of .choice-of .ensures) ∙ ap choiceIs (at-enum-told3 .enum-told3 .given .1)) (at-process-both .process-both .ensures (m .0) f l)
 
   pub proved : {M : Type 1} → lts.Closed claims (process-ite-at t) process-ite.Post M
   proved = lts.spec claims (process-ite-at t) process-ite.Post operand-requires visit-requires is-refused-requires same-length same-length-2 returns element-copy-out-get-constant get-constant-requires choice-of-requires enum-told process-left-requires enum-told-2 process-right-requires enum-told-3 process-both-requires same-length-3 same-length-4 returns-2 same-length-5 same-length-6 returns-3 same-length-7 same-length-8 returns-4

@@ -53,7 +53,13 @@ module _ (t : ℕ) where
       let at-visit = c .before .before .before .before .before .before .before in
       let at-operand = at-visit .before in
       let start = at-operand .before .before .before .before .before .before .before in
-      λ h f l. left-stop (start .args .given .now) (inputsIn (start .args .given .now) (start .args .call .now)) (repliesIn (start .args .given .now) (start .args .call .now)) (waysBy (start .args .given .now) (start .args .dumps .now) (start .args .call .now)) (visitOf (start .args .given .now) (waysBy (start .args .given .now) (start .args .dumps .now) (start .args .call .now)) f) (start .args .node) (view h (start .args .given .now) (inputsIn (start .args .given .now) (start .args .call .now)) (repliesIn (start .args .given .now) (start .args .call .now)) (start .args .result .now) (start .args .scratch .now) (walkIn (start .args .counters .now))) _ _ _ _ _ _ _ (at-visit .visit .ensures h f (omega (arith, at-operand .operand .ensures, (start .pre .1 .1 .1 .1 .0), l))) (stopped _ _ _ (c .before .is-refused .ensures) (c .if1 .taken)) (start .args .x) (at-operand .operand .ensures)
+      let given = start .args .given .now in
+      let call = start .args .call .now in
+      let dumps = start .args .dumps .now in
+      let inputs = inputsIn given call in
+      let replies = repliesIn given call in
+      let ways = waysBy given dumps call in
+      λ h f l. left-stop given inputs replies ways (visitOf given ways f) (start .args .node) (view h given inputs replies (start .args .result .now) (start .args .scratch .now) (walkIn (start .args .counters .now))) _ _ _ _ _ _ _ (at-visit .visit .ensures h f (omega (arith, at-operand .operand .ensures, (start .pre .1 .1 .1 .1 .0), l))) (stopped _ _ _ (c .before .is-refused .ensures) (c .if1 .taken)) (start .args .x) (at-operand .operand .ensures)
 
   operand-requires-2 : lts.Need-operand-requires-2 claims (process-left-at t) process-left.Post
   operand-requires-2 c κs =
@@ -102,7 +108,11 @@ module _ (t : ℕ) where
       let at-visit = at-is-refused .before .before .before .before .before .before in
       let at-operand = at-visit .before in
       let start = at-operand .before .before .before .before .before .before .before in
-      λ h f l. let m = at-visit .visit .ensures h f (omega (arith, at-operand .operand .ensures, (start .pre .1 .1 .1 .1 .0), l)) in (m .0, left-go (start .args .given .now) (waysBy (start .args .given .now) (start .args .dumps .now) (start .args .call .now)) (visitOf (start .args .given .now) (waysBy (start .args .given .now) (start .args .dumps .now) (start .args .call .now)) f) (start .args .node) (view h (start .args .given .now) (inputsIn (start .args .given .now) (start .args .call .now)) (repliesIn (start .args .given .now) (start .args .call .now)) (start .args .result .now) (start .args .scratch .now) (walkIn (start .args .counters .now))) _ _ _ (came-done _ _ _ _ _ _ _ m _ _ (went _ _ _ (at-is-refused .is-refused .ensures) (at-if1 .if1 .left))) (start .args .x) _ _ _ (at-operand .operand .ensures) (at-operand2 .operand2 .ensures) (at-put-row .put-row .ensures (m .0) _ _ _ _) (at-settle .settle .ensures (m .0) _ _ _))
+      let given = start .args .given .now in
+      let call = start .args .call .now in
+      let dumps = start .args .dumps .now in
+      let ways = waysBy given dumps call in
+      λ h f l. let m = at-visit .visit .ensures h f (omega (arith, at-operand .operand .ensures, (start .pre .1 .1 .1 .1 .0), l)) in (m .0, left-go given ways (visitOf given ways f) (start .args .node) (view h given (inputsIn given call) (repliesIn given call) (start .args .result .now) (start .args .scratch .now) (walkIn (start .args .counters .now))) _ _ _ (came-done _ _ _ _ _ _ _ m _ _ (went _ _ _ (at-is-refused .is-refused .ensures) (at-if1 .if1 .left))) (start .args .x) _ _ _ (at-operand .operand .ensures) (at-operand2 .operand2 .ensures) (at-put-row .put-row .ensures (m .0) _ _ _ _) (at-settle .settle .ensures (m .0) _ _ _))
 
   pub proved : {M : Type 1} → lts.Closed claims (process-left-at t) process-left.Post M
   proved = lts.spec claims (process-left-at t) process-left.Post operand-requires visit-requires is-refused-requires same-length same-length-2 returns operand-requires-2 put-row-requires settle-requires same-length-3 same-length-4 returns-2

@@ -52,7 +52,13 @@ module _ (t : ℕ) where
       let at-visit = c .before .before .before .before .before .before .before in
       let at-operand = at-visit .before .before .before .before in
       let start = at-operand .before .before .before .before in
-      λ h f l. step-stop (start .args .given .now) (inputsIn (start .args .given .now) (start .args .call .now)) (repliesIn (start .args .given .now) (start .args .call .now)) (waysBy (start .args .given .now) (start .args .dumps .now) (start .args .call .now)) (visitOf (start .args .given .now) (waysBy (start .args .given .now) (start .args .dumps .now) (start .args .call .now)) f) (start .args .node) (view h (start .args .given .now) (inputsIn (start .args .given .now) (start .args .call .now)) (repliesIn (start .args .given .now) (start .args .call .now)) (start .args .result .now) (start .args .scratch .now) (walkIn (start .args .counters .now))) _ _ _ _ _ _ _ (at-visit .visit .ensures h f (omega (arith, at-operand .operand .ensures, (start .pre .1 .1 .1 .1 .0), l))) (stopped _ _ _ (c .before .is-refused .ensures) (c .if1 .taken)) (at-operand .operand .ensures)
+      let given = start .args .given .now in
+      let call = start .args .call .now in
+      let dumps = start .args .dumps .now in
+      let inputs = inputsIn given call in
+      let replies = repliesIn given call in
+      let ways = waysBy given dumps call in
+      λ h f l. step-stop given inputs replies ways (visitOf given ways f) (start .args .node) (view h given inputs replies (start .args .result .now) (start .args .scratch .now) (walkIn (start .args .counters .now))) _ _ _ _ _ _ _ (at-visit .visit .ensures h f (omega (arith, at-operand .operand .ensures, (start .pre .1 .1 .1 .1 .0), l))) (stopped _ _ _ (c .before .is-refused .ensures) (c .if1 .taken)) (at-operand .operand .ensures)
 
   process-value-requires : lts.Need-process-value-requires claims (process-next-at t) process-next.Post
   process-value-requires c κs =
@@ -83,7 +89,15 @@ module _ (t : ℕ) where
       let at-visit = at-is-refused .before .before .before .before .before .before in
       let at-operand = at-visit .before .before .before .before in
       let start = at-operand .before .before .before .before in
-      λ h f l. let m = at-visit .visit .ensures h f (omega (arith, at-operand .operand .ensures, (start .pre .1 .1 .1 .1 .0), l)) in step-go (start .args .given .now) (inputsIn (start .args .given .now) (start .args .call .now)) (repliesIn (start .args .given .now) (start .args .call .now)) (waysBy (start .args .given .now) (start .args .dumps .now) (start .args .call .now)) (visitOf (start .args .given .now) (waysBy (start .args .given .now) (start .args .dumps .now) (start .args .call .now)) f) (start .args .node) (view h (start .args .given .now) (inputsIn (start .args .given .now) (start .args .call .now)) (repliesIn (start .args .given .now) (start .args .call .now)) (start .args .result .now) (start .args .scratch .now) (walkIn (start .args .counters .now))) _ (start .args .result .now) (start .args .scratch .now) _ _ _ _ _ (came-done _ _ _ _ _ _ _ m _ _ (went _ _ _ (at-is-refused .is-refused .ensures) (at-if1 .if1 .left))) (at-operand .operand .ensures) (at-process-value .process-value .ensures (m .0) f l)
+      let given = start .args .given .now in
+      let call = start .args .call .now in
+      let dumps = start .args .dumps .now in
+      let result = start .args .result .now in
+      let scratch = start .args .scratch .now in
+      let inputs = inputsIn given call in
+      let replies = repliesIn given call in
+      let ways = waysBy given dumps call in
+      λ h f l. let m = at-visit .visit .ensures h f (omega (arith, at-operand .operand .ensures, (start .pre .1 .1 .1 .1 .0), l)) in step-go given inputs replies ways (visitOf given ways f) (start .args .node) (view h given inputs replies result scratch (walkIn (start .args .counters .now))) _ result scratch _ _ _ _ _ (came-done _ _ _ _ _ _ _ m _ _ (went _ _ _ (at-is-refused .is-refused .ensures) (at-if1 .if1 .left))) (at-operand .operand .ensures) (at-process-value .process-value .ensures (m .0) f l)
 
   pub proved : {M : Type 1} → lts.Closed claims (process-next-at t) process-next.Post M
   proved = lts.spec claims (process-next-at t) process-next.Post operand-requires visit-requires is-refused-requires same-length same-length-2 returns process-value-requires same-length-3 same-length-4 returns-2

@@ -53,12 +53,30 @@ module _ (t : ℕ) where
       let at-process = c .before .before .before .before in
       let at-if1 = at-process .before .before .before .before in
       let start = at-if1 .before .before .before .before .before in
-      λ h. deep (λ f. Meets (start .args .given .now) (inputsIn (start .args .given .now) (start .args .call .now)) (repliesIn (start .args .given .now) (start .args .call .now)) _ _ _ (visitOf (start .args .given .now) (waysBy (start .args .given .now) (start .args .dumps .now) (start .args .call .now)) f (view h (start .args .given .now) (inputsIn (start .args .given .now) (start .args .call .now)) (repliesIn (start .args .given .now) (start .args .call .now)) (start .args .result .now) (start .args .scratch .now) (walkIn (start .args .counters .now))) (start .args .node))) (start .args .node) (λ f l. again-fresh (start .args .given .now) (inputsIn (start .args .given .now) (start .args .call .now)) (repliesIn (start .args .given .now) (start .args .call .now)) (start .args .result .now) (start .args .scratch .now) (walkIn (start .args .counters .now)) (waysBy (start .args .given .now) (start .args .dumps .now) (start .args .call .now)) f h (start .args .node) (start .pre .1 .1 .0) _ _ _ (at-if1 .if1 .taken) (at-process .process .ensures h f l))
+      let given = start .args .given .now in
+      let call = start .args .call .now in
+      let dumps = start .args .dumps .now in
+      let result = start .args .result .now in
+      let scratch = start .args .scratch .now in
+      let counters = start .args .counters .now in
+      let inputs = inputsIn given call in
+      let replies = repliesIn given call in
+      let ways = waysBy given dumps call in
+      λ h. deep (λ f. Meets given inputs replies _ _ _ (visitOf given ways f (view h given inputs replies result scratch (walkIn counters)) (start .args .node))) (start .args .node) (λ f l. again-fresh given inputs replies result scratch (walkIn counters) ways f h (start .args .node) (start .pre .1 .1 .0) _ _ _ (at-if1 .if1 .taken) (at-process .process .ensures h f l))
 
   returns-2 : lts.Need-returns-2 claims (visit-at t) visit.Post
   returns-2 c =
       let start = c .before .before .before .before .before .before in
-      λ h. deep (λ f. Meets (start .args .given .now) (inputsIn (start .args .given .now) (start .args .call .now)) (repliesIn (start .args .given .now) (start .args .call .now)) _ _ _ (visitOf (start .args .given .now) (waysBy (start .args .given .now) (start .args .dumps .now) (start .args .call .now)) f (view h (start .args .given .now) (inputsIn (start .args .given .now) (start .args .call .now)) (repliesIn (start .args .given .now) (start .args .call .now)) (start .args .result .now) (start .args .scratch .now) (walkIn (start .args .counters .now))) (start .args .node))) (start .args .node) (λ f l. met (start .args .given .now) (inputsIn (start .args .given .now) (start .args .call .now)) (repliesIn (start .args .given .now) (start .args .call .now)) _ _ _ _ _ _ (went false _ _ (sym (start .pre .1 .1 .1)) refl) (again-kept (start .args .given .now) (inputsIn (start .args .given .now) (start .args .call .now)) (repliesIn (start .args .given .now) (start .args .call .now)) (start .args .result .now) (start .args .scratch .now) (walkIn (start .args .counters .now)) (waysBy (start .args .given .now) (start .args .dumps .now) (start .args .call .now)) f h (start .args .node) (start .pre .1 .1 .0) (c .if2 .taken)))
+      let given = start .args .given .now in
+      let call = start .args .call .now in
+      let dumps = start .args .dumps .now in
+      let result = start .args .result .now in
+      let scratch = start .args .scratch .now in
+      let counters = start .args .counters .now in
+      let inputs = inputsIn given call in
+      let replies = repliesIn given call in
+      let ways = waysBy given dumps call in
+      λ h. deep (λ f. Meets given inputs replies _ _ _ (visitOf given ways f (view h given inputs replies result scratch (walkIn counters)) (start .args .node))) (start .args .node) (λ f l. met given inputs replies _ _ _ _ _ _ (went false _ _ (sym (start .pre .1 .1 .1)) refl) (again-kept given inputs replies result scratch (walkIn counters) ways f h (start .args .node) (start .pre .1 .1 .0) (c .if2 .taken)))
 
   node-count-requires : lts.Need-node-count-requires claims (visit-at t) visit.Post
   node-count-requires c κs =
@@ -89,7 +107,16 @@ module _ (t : ℕ) where
       let at-if2 = at-node-count .before in
       let at-if1 = at-if2 .before in
       let start = at-if1 .before .before .before .before .before in
-      λ h. deep (λ f. Meets (start .args .given .now) (inputsIn (start .args .given .now) (start .args .call .now)) (repliesIn (start .args .given .now) (start .args .call .now)) _ _ _ (visitOf (start .args .given .now) (waysBy (start .args .given .now) (start .args .dumps .now) (start .args .call .now)) f (view h (start .args .given .now) (inputsIn (start .args .given .now) (start .args .call .now)) (repliesIn (start .args .given .now) (start .args .call .now)) (start .args .result .now) (start .args .scratch .now) (walkIn (start .args .counters .now))) (start .args .node))) (start .args .node) (λ f l. met (start .args .given .now) (inputsIn (start .args .given .now) (start .args .call .now)) (repliesIn (start .args .given .now) (start .args .call .now)) _ _ _ _ _ _ (went false _ _ (sym (start .pre .1 .1 .1)) refl) (again-replaced (start .args .given .now) (inputsIn (start .args .given .now) (start .args .call .now)) (repliesIn (start .args .given .now) (start .args .call .now)) (start .args .result .now) (start .args .scratch .now) (walkIn (start .args .counters .now)) (waysBy (start .args .given .now) (start .args .dumps .now) (start .args .call .now)) f h (start .args .node) (start .pre .1 .1 .0) _ _ (at-node-count .node-count .ensures) (c .number .ensures) (at-if1 .if1 .left) (at-if2 .if2 .left)))
+      let given = start .args .given .now in
+      let call = start .args .call .now in
+      let dumps = start .args .dumps .now in
+      let result = start .args .result .now in
+      let scratch = start .args .scratch .now in
+      let counters = start .args .counters .now in
+      let inputs = inputsIn given call in
+      let replies = repliesIn given call in
+      let ways = waysBy given dumps call in
+      λ h. deep (λ f. Meets given inputs replies _ _ _ (visitOf given ways f (view h given inputs replies result scratch (walkIn counters)) (start .args .node))) (start .args .node) (λ f l. met given inputs replies _ _ _ _ _ _ (went false _ _ (sym (start .pre .1 .1 .1)) refl) (again-replaced given inputs replies result scratch (walkIn counters) ways f h (start .args .node) (start .pre .1 .1 .0) _ _ (at-node-count .node-count .ensures) (c .number .ensures) (at-if1 .if1 .left) (at-if2 .if2 .left)))
 
   pub proved : {M : Type 1} → lts.Closed claims (visit-at t) visit.Post M
   proved = lts.spec claims (visit-at t) visit.Post mul-mark slice-read-mark process-requires same-length same-length-2 returns returns-2 node-count-requires add-number mul-number slice-read-number number-requires returns-3
