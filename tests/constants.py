@@ -56,7 +56,7 @@ PLACES = [
     ("crates/tables/src/node.rt", RATTLE, changed(KINDS, str.upper)),
     ("crates/btor/src/node_type.rt", RATTLE,
      changed(SORTS | WIDER, lambda name: re.sub(r"Input(\d)Byte", r"Input_\1_Byte", name).upper())),
-    ("crates/text/src/reader.rt", RATTLE, same("MOST_NUMBERS")),
+    ("crates/text/src/reader.rt", RATTLE, {"MOST_NUMBERS": "NUMBERS"}),
     # the rule book
     ("docs/FORMAT.md", r"^\| 1 \| nodes \| (\d+) \|", {"ROW_WIDTH": ""}),
     ("docs/FORMAT.md", r"^\| \d \| NAME\b.* \| \d \| ([\d,]+) \|$",
