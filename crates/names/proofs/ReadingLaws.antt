@@ -2,23 +2,23 @@
 -- By recursion over the names, one of which stands at each place; back, over how many names are read at most.
 --     reads-all, accepts-read   the two laws of specs/Laws.antt
 -- Assumes nothing.
-use Prim.Native.Nat.{ℕ, zero, suc, _+_, _*_, _<_, _≤_}
+use Prim.Native.Nat.{ℕ, zero, suc, _+_, _<_, _≤_}
 use mathlib.Core.Path.{_≡_, refl, sym, ap, ap₂, _∙_, subst}
 use mathlib.Core.Bool.{Bool, true, false}
 use mathlib.Core.Option.{Option, none, some}
 use mathlib.Core.List.{List, [], _∷_, _++_}
 use native.Mathlib.Omega.{arith}
-use lib.ListN.{length, getD, drop, length-append, length-drop, drop-of-length-le}
+use lib.ListN.{length, drop, length-append, length-drop, drop-of-length-le}
 use lib.Dec.{ltb}
 use borrow.Author.Tests.{ltb-true, ltb-false}
-use Rattle.rules.specs.Refusal.{Refusal, Out, refused, done, refuse, _>>=_}
+use Rattle.rules.specs.Refusal.{Out, refused, done, refuse, _>>=_}
 use Rattle.rules.specs.Lists.{All}
 use Rattle.rules.specs.Limits.{house}
 use Rattle.rules.specs.Names.{namesOf, countedNames, sizedNames}
 use Rattle.rules.proofs.Sections.{never, same-done, through}
 use Rattle.rules.proofs.Names.{names-done, countedNames-back}
 use Rattle.tables.specs.NameAnswers.{readAt}
-use Rattle.names.specs.Reading.{nextAt, nameAt, afterAt, readOn, readFrom, readNames}
+use Rattle.names.specs.Reading.{nextAt, nameAt, afterAt, readOn, readFrom}
 use Rattle.names.specs.Laws.{ReadsAll, AcceptsRead}
 use Rattle.names.proofs.PlaceLaws.{Stands, standing, next-end, next-read, next-here, name-here, after-here, more-here}
 

@@ -1,9 +1,9 @@
 -- Judging bads: by the reply, by the condition, one after the other; and what a judged bad leaves for the next.
 -- Assumes nothing.
-use Prim.Native.Nat.{ℕ, suc, _+_, _-_, _*_, _<_, _≤_}
+use Prim.Native.Nat.{ℕ, suc, _+_, _-_, _<_, _≤_}
 use mathlib.Core.Path.{_≡_, refl, ap, ap₂, sym, _∙_, subst}
 use mathlib.Core.Bool.{Bool, true, false, cond, _&&_}
-use mathlib.Core.Option.{Option, none, some}
+use mathlib.Core.Option.{Option}
 use mathlib.Core.List.{List, [], _∷_, _++_, append-assoc, append-nil}
 use native.Mathlib.Numerals.{add-one}
 use native.Mathlib.Omega.{arith}
@@ -21,7 +21,7 @@ use Rattle.rules.specs.Fold.{constOf, isConst}
 use Rattle.rules.specs.Questions.{ask}
 use Rattle.rules.specs.Visit.{Ways, visit, visitTop}
 use Rattle.rules.specs.Whole as whole
-use Rattle.rules.specs.Whole.{Bads, Judgement, ifStays, ifDropped, noted, byReply, judgeBad}
+use Rattle.rules.specs.Whole.{Bads, Judgement, noted, judgeBad}
 use Rattle.rules.specs.Fine.{fee}
 use Rattle.rules.proofs.Base.{If}
 use Rattle.rules.proofs.Walked.{Walked, Goes, bads-walked}

@@ -8,7 +8,7 @@ use mathlib.Core.List.{List, []}
 use native.Mathlib.Nat.{mul-le-mul}
 use native.Mathlib.Omega.{arith}
 use lib.ListN.{length}
-use Rattle.btor.specs.Operators.{bit, rust}
+use Rattle.btor.specs.Operators.{bit}
 use Rattle.rules.specs.Model.{Mode}
 use Rattle.rules.specs.Lists.{All}
 use Rattle.rules.specs.Table.{Write, Read, Node, nodeAt, is}

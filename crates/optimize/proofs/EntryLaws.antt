@@ -19,7 +19,7 @@ use Rattle.rules.specs.Table.{Row, Node, kindOf, kindCode, rowWidth}
 use Rattle.rules.specs.Model.{Model, Mode}
 use Rattle.rules.specs.Check.{knownKind, check}
 use Rattle.rules.specs.Legal.{WellFormed, noRow, rowAt, Accepted}
-use Rattle.rules.specs.Limits.{house, modeOf, adds}
+use Rattle.rules.specs.Limits.{house, modeOf}
 use Rattle.rules.specs.Names.{namesOf, dump}
 use Rattle.rules.specs.Whole.{fold}
 use Rattle.rules.specs.Sections as rules

@@ -5,7 +5,6 @@ use mathlib.Core.Path.{_≡_, refl, sym, ap, _∙_}
 use Rattle.btor.specs.Operators.{Op, complement}
 use Rattle.btor.specs.Sorts.{sortOf, bitsOf, widthOf, onesOf, width, ones}
 use Rattle.btor.specs.declared.node_type.NodeType.{NodeType}
-use Rattle.btor.specs.declared.node_type.CodedSort.{CodedSort}
 use Rattle.btor.specs.declared.node_type.CodedSort.the-variants.{Known, Unknown}
 use Rattle.optimize.specs.Folding.{opIs, operatorOf}
 

@@ -1,13 +1,13 @@
 -- The given words of a judged call as the walk reads them: the nodes at their places are the table that was cut, and the parts of the words its lists.
 -- By the places of the sections (tables' `IsCut`) and equality by index.
 -- Assumes nothing.
-use Prim.Native.Nat.{ℕ, _+_, _-_, _*_, _<_}
+use Prim.Native.Nat.{ℕ, _-_, _*_, _<_}
 use mathlib.Core.Path.{_≡_, refl, sym, ap, _∙_}
 use mathlib.Core.List.{List}
 use native.Mathlib.Omega.{arith}
 use lib.ListN.{getD, take, drop}
 use lib.Seq.{ext-getD}
-use Rattle.rules.specs.Table.{Node, decode, unknown, nodeAt, rowWidth}
+use Rattle.rules.specs.Table.{unknown, nodeAt}
 use Rattle.rules.specs.Limits.{house}
 use Rattle.rules.specs.Sections.{encode}
 use Rattle.tables.specs.SectionAnswers.{sectionsIn, wordsIn, Lies}

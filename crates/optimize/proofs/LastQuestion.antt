@@ -1,14 +1,14 @@
 -- The last question by the number of bads left; the bads that question 5 is about are forgotten, since no buffer holds them.
 -- Assumes nothing.
-use Prim.Native.Nat.{ℕ, zero, suc, _-_, _<_, _≤_}
+use Prim.Native.Nat.{ℕ, zero, suc, _-_, _≤_}
 use mathlib.Core.Path.{_≡_, refl, ap, ap₂, sym, _∙_}
 use mathlib.Core.Bool.{Bool, true, false, cond}
 use mathlib.Core.List.{List, [], _∷_, _++_, map}
 use native.Mathlib.Omega.{arith}
-use lib.ListN.{length, getD, take, drop}
+use lib.ListN.{length, getD}
 use lib.Dec.{eqb, leb}
 use borrow.Author.Tests.{eq-eqb, ne-eqb}
-use Rattle.rules.specs.Refusal.{Out, refused, done, refuse, _>>=_}
+use Rattle.rules.specs.Refusal.{done, refuse, _>>=_}
 use Rattle.rules.specs.Model.{Model, Mode}
 use Rattle.rules.specs.Walk.{St, Question, Held, addAsked}
 use Rattle.rules.specs.Questions.{ask, most, firstReply, otherReplies, question}

@@ -1,23 +1,23 @@
 -- Joining the parts of a fold: the rules' fold by its outcomes, and the fold that lies in the buffers at the end.
 -- Assumes nothing.
 use Prim.Native.Nat.{ℕ, _+_, _*_, _<_, _≤_}
-use mathlib.Core.Path.{_≡_, refl, sym, ap, ap₂, _∙_, subst}
-use mathlib.Core.Bool.{Bool, true, false}
+use mathlib.Core.Path.{_≡_, refl, sym, ap, _∙_}
+use mathlib.Core.Bool.{true, false}
 use mathlib.Core.List.{List, [], _++_}
 use native.Mathlib.Omega.{arith}
-use lib.ListN.{length, getD, take, drop, length-take}
+use lib.ListN.{length, getD, take}
 use lib.Seq.{ext-getD}
 use Rattle.rules.specs.Refusal as rules
 use Rattle.rules.specs.Refusal.{Out, refused, done, _>>=_}
 use Rattle.rules.specs.Model.{Model, Mode}
 use Rattle.rules.specs.Walk.{St, Held, start}
-use Rattle.rules.specs.Whole.{Bads, bads, Folded, waysOf, judgeSequentials, visitAll, foldBads, fold}
+use Rattle.rules.specs.Whole.{Bads, bads, waysOf, judgeSequentials, visitAll, foldBads, fold}
 use Rattle.optimize.specs.declared.walk.Walk.{Walk}
 use Rattle.optimize.specs.declared.result.Kept.{Kept}
 use Rattle.optimize.specs.declared.result.Sizes.{Sizes}
 use Rattle.optimize.specs.Bounds.{countOf}
-use Rattle.optimize.specs.View.{tableOf, view}
-use Rattle.optimize.specs.ResultView.{untouched, listsAt, foldedIn}
+use Rattle.optimize.specs.View.{view}
+use Rattle.optimize.specs.ResultView.{listsAt, foldedIn}
 use Rattle.optimize.specs.Lists.{entriesOf}
 use Rattle.optimize.proofs.Entries.{entries-length, entry-at}
 use Rattle.optimize.proofs.Begun.{view-front}

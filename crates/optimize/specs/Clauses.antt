@@ -37,10 +37,10 @@ use Rattle.optimize.specs.Bounds.{countOf, HasAsks}
 use Rattle.optimize.specs.View.{nodeOf, markBy, view, outcomeOf, tableOf, waysIn, Meets}
 use Rattle.optimize.specs.Counters.{walkIn, answerIn}
 use Rattle.optimize.specs.Process.{askedOf, askedBy, solvedOf, settleThen, takeOf, visitOf}
-use Rattle.optimize.specs.CallWords.{inputsIn, repliesIn, modeIn, waysBy, LaidBy, VisitsBy}
+use Rattle.optimize.specs.CallWords.{inputsIn, repliesIn, modeIn, waysBy, VisitsBy}
 use Rattle.optimize.specs.Lists.{entriesOf, joined, WalksTo, LaidAfter}
 use Rattle.optimize.specs.Bads.{retainedOf, judgedOf, replyRule, badRule, visitedRule, listRule, BadsLeft}
-use Rattle.optimize.specs.LastQuestion.{answeredOf, verdictThen, forgotten}
+use Rattle.optimize.specs.LastQuestion.{answeredOf, forgotten}
 use Rattle.optimize.specs.ResultView.{untouched, foldedIn, ModelOf, Wrote, Handed}
 use Rattle.optimize.specs.Runs.{modelIn, Runnable, Underway, Ends, Runs}
 

@@ -3,7 +3,7 @@
 --     resultLeft              the result buffer at the end    InOrder                  a call that `judge` accepted
 --     modelParts, RunnableParts    the parts of the words that are folded
 -- Assumes nothing.
-use Prim.Native.Nat.{ℕ, _≤_}
+use Prim.Native.Nat.{ℕ}
 use mathlib.Core.Path.{_≡_}
 use mathlib.Core.List.{List}
 use lib.ListN.{length, replicate}

@@ -11,7 +11,6 @@ use Rattle.rules.specs.Refusal.{Out}
 use Rattle.rules.specs.Legal.{AllLegal}
 use Rattle.rules.specs.Walk.{St, Held}
 use Rattle.rules.specs.Room.{unpaid}
-use Rattle.rules.specs.Visit.{Ways}
 use Rattle.rules.specs.Fine.{Fine, fee}
 use Rattle.optimize.specs.declared.walk.Walk.{Walk}
 use Rattle.optimize.specs.declared.walk.Visited.{Visited}

@@ -2,7 +2,7 @@
 --     Table       a legal table, whole in its words            entriesOf   a list in a buffer
 --     WalksTo     what a list of visits leaves                  LaidAfter   the buffers are laid for what comes next
 -- Assumes nothing.
-use Prim.Native.Nat.{ℕ, _+_, _*_, _≤_}
+use Prim.Native.Nat.{ℕ, _+_, _≤_}
 use mathlib.Core.Path.{_≡_}
 use mathlib.Core.List.{List, _++_}
 use lib.ListN.{length, take, drop}

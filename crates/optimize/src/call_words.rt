@@ -1,5 +1,6 @@
 // What a call fixes, as five words that visits are lent: where its inputs start and end among the given words, where its replies do, and its mode.
 use btor::reading::Reading;
+use tables::limits::NAME_MARKS;
 ghost use mathlib.Core.Path.{_≡_};
 ghost use Rattle.btor.specs.Readings.{readingIs};
 ghost use Rattle.optimize.specs.CallWords.{between, inputsIn, repliesIn, modeIn};
@@ -9,7 +10,7 @@ ghost use Prim.Native.Nat.{_<_};
 pub(crate) type CallWords = [usize; 5];
 
 // A 1 for each name that begins with `memory-dump`; none has number 0.
-pub(crate) type Dumps = [u8; 4097];
+pub(crate) type Dumps = [u8; NAME_MARKS];
 
 // The words from one place to another, as far as they are there.
 fn between(words: &[u64], from: usize, to: usize) -> &[u64]

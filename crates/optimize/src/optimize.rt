@@ -6,6 +6,7 @@ use crate::run::run;
 use crate::walk::Optimized;
 use tables::judge::Verdict;
 use tables::limits::Limits;
+use tables::limits::NAME_MARKS;
 use tables::names::mark_memory_dumps;
 use tables::sections::Part;
 use tables::sections::Sections;
@@ -132,7 +133,7 @@ fn fold_judged(
     ensures { λ _. ⌜ now (result .exit) ≡ left house (entryIs entry) (callLent mode words names result scratch) .result ⌝ }
     ensures { λ _. ⌜ now (scratch .exit) ≡ left house (entryIs entry) (callLent mode words names result scratch) .scratch ⌝ }
 {
-    let mut dumps: Dumps = [0u8; 4097];
+    let mut dumps: Dumps = [0u8; NAME_MARKS];
     mark_memory_dumps(names, &mut dumps);
     let inputs_to = inputs_end(entry, sections.inputs);
     let replies_to = replies_end(entry, sections.replies);

@@ -1,7 +1,7 @@
 -- From one state of a walk to a later one: the structural invariant is kept, marks further up stay, what stands goes on standing,
 -- and what was spent is covered by what the marked nodes paid.
 -- Assumes nothing.
-use Prim.Native.Nat.{ℕ, suc, _+_, _*_, _≤_}
+use Prim.Native.Nat.{ℕ, suc, _+_, _≤_}
 use mathlib.Core.Path.{_≡_, refl, _∙_}
 use mathlib.Core.Bool.{true}
 use mathlib.Core.List.{List, [], _∷_}

@@ -1,19 +1,19 @@
 -- Laws for the proofs of judge.rt: the first of four refusals, and a call refused at each stage or judged.
 -- Assumes nothing.
 use Prim.Native.Nat.{ℕ}
-use mathlib.Core.Path.{_≡_, refl, sym, ap, ap₂, _∙_, subst}
+use mathlib.Core.Path.{_≡_, refl, sym, ap, subst}
 use mathlib.Core.Option.{Option, none, some}
 use mathlib.Core.List.{List, [], _∷_}
 use native.Mathlib.Omega.{arith}
 use lib.ListN.{length}
-use Rattle.rules.specs.Refusal.{Refusal, Out, refused, done, refuse, _>>=_, firstOf, unlessRefused}
+use Rattle.rules.specs.Refusal.{Refusal, Out, refused, done, _>>=_, firstOf, unlessRefused}
 use Rattle.rules.specs.Model.{Mode}
 use Rattle.rules.specs.Limits.{Limits}
 use Rattle.rules.specs.Check.{check}
 use Rattle.rules.specs.Sections as rules
 use Rattle.rules.specs.Sections.{cut}
 use Rattle.rules.specs.Names.{namesOf}
-use Rattle.rules.specs.Call.{Call, judgeMode, judgeRoom, needOf, modelFrom, judged}
+use Rattle.rules.specs.Call.{judgeMode, judgeRoom, needOf, modelFrom, judged}
 use Rattle.tables.specs.SectionAnswers.{sectionsIn, Inside}
 use Rattle.tables.specs.NameAnswers.{counted, namesCount}
 use Rattle.tables.specs.Judging.{rowsIn, modelIn, refusalIn, Counted, roomOf, IsCut, judgedCount}

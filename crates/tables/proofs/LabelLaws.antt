@@ -16,7 +16,7 @@ use Rattle.rules.specs.Limits.{Limits}
 use Rattle.rules.specs.Sections.{Part, cutSection, wordOf, rowOf, rowsOf}
 use Rattle.rules.specs.Names.{namesOf}
 use Rattle.rules.specs.Label.{at, named, nameOfRow, nameOfNode, orSubstitute, labelOf}
-use Rattle.rules.proofs.Sections.{nothing-at, over-at, short-at, whole-at, Parted, section-done, rows-length, row-of}
+use Rattle.rules.proofs.Sections.{Parted, section-done, rows-length, row-of}
 use Rattle.rules.proofs.Label.{at-in, at-past}
 use Rattle.tables.specs.NodeAnswers.{HasRow}
 use Rattle.tables.specs.NameAnswers.{placeOf, nodesCut, nodesIn, nameWord, nameWordAmong, nameWordOf}

@@ -1,22 +1,22 @@
 -- Laws for the proofs of lists.rt: entries by their rows, lists at their places in cut words, and judging one entry after the other.
 -- Assumes nothing.
-use Prim.Native.Nat.{ℕ, zero, suc, _+_, _-_, _*_, _<_, _≤_, min}
-use mathlib.Core.Path.{_≡_, refl, sym, ap, ap₂, _∙_, subst}
-use mathlib.Core.Bool.{Bool, true, false, _&&_, _||_, not, and-true, false≢true}
+use Prim.Native.Nat.{ℕ, zero, suc, _+_, _-_, _*_, _<_, _≤_}
+use mathlib.Core.Path.{_≡_, refl, sym, ap, ap₂, _∙_}
+use mathlib.Core.Bool.{Bool, true, false, _&&_, _||_, not, and-true}
 use mathlib.Core.Option.{Option, none, some}
 use mathlib.Core.List.{List, [], _∷_, map}
 use native.Mathlib.Omega.{arith}
 use native.Mathlib.Numerals.{add-one}
 use lib.Dec.{ltb, eqb}
-use lib.ListN.{length, length-set, getD, set, take, drop, replicate, length-take, length-drop, drop-of-length-le, List·getD-map}
+use lib.ListN.{length, length-set, getD, set, drop, replicate, length-take, length-drop, drop-of-length-le}
 use lib.Seq.{getD-drop, getD-take, drop-cons, getD-set-same, getD-set-other}
-use borrow.Author.Tests.{eqb-true, eqb-false, eq-eqb, ne-eqb, ltb-true}
+use borrow.Author.Tests.{eqb-true, eqb-false, eq-eqb, ne-eqb}
 use Rattle.rules.specs.Refusal.{Refusal, unless, firstOf}
-use Rattle.rules.specs.Lists.{allTrue, every, member}
-use Rattle.rules.specs.Table.{Next, Row, Node, Kind, decode, is, kindOf, kindCode, nodeAt, operands, operandsAs}
-use Rattle.rules.specs.Check.{rule4, sequentialEntry, badEntry, checkSequentials, checkBads, checkNode, checkNodes}
-use Rattle.tables.specs.NodeAnswers.{rowIs, rowUnknown}
-use Rattle.tables.specs.SectionAnswers.{sectionsIn, wordsIn, Lies}
+use Rattle.rules.specs.Lists.{allTrue, member}
+use Rattle.rules.specs.Table.{Row, Node, decode, kindCode, nodeAt}
+use Rattle.rules.specs.Check.{sequentialEntry, badEntry, checkSequentials, checkBads}
+use Rattle.tables.specs.NodeAnswers.{rowIs}
+use Rattle.tables.specs.SectionAnswers.{wordsIn, Lies}
 use Rattle.tables.specs.Judging.{rowsIn, tableIn, statesBefore, Marks}
 use Rattle.tables.specs.declared.node.Row as node
 use Rattle.tables.specs.declared.sections.Part.{Part}

@@ -14,7 +14,7 @@ use mathlib.Core.List.{List, [], _∷_, _++_}
 use native.Mathlib.Omega.{arith}
 use native.Mathlib.Nat.{add-zero}
 use native.Mathlib.Numerals.{add-one}
-use lib.ListN.{length, getD, take, drop, set, replicate, length-append, length-drop, drop-of-length-le}
+use lib.ListN.{length, getD, take, drop, set, length-append, length-drop, drop-of-length-le}
 use lib.Seq.{drop-cons, drop-drop, drop-append-seam, getD-drop, getD-set-same, getD-set-other}
 use lib.Dec.{ltb}
 use borrow.Author.Tests.{ltb-true, ltb-false, eq-eqb, ne-eqb}

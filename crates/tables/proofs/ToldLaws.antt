@@ -1,13 +1,12 @@
 -- Laws for the proofs of forms.rt, single.rt and several.rt: the first rule that a node breaks, where its operands are read only if rules 3 and 4 hold.
 --     three, four, both     what the code found of rules 3 and 4, and of both together
 -- Assumes nothing.
-use Prim.Native.Nat.{ℕ, _+_, _*_, _<_, _≤_}
+use Prim.Native.Nat.{ℕ, _<_}
 use mathlib.Core.Path.{_≡_, refl, sym, ap, ap₂, _∙_}
 use mathlib.Core.Bool.{Bool, true, false, _&&_, not, and-true, false≢true}
 use mathlib.Core.List.{List, [], _∷_}
 use native.Mathlib.Omega.{arith}
 use lib.Dec.{ltb}
-use lib.ListN.{length}
 use borrow.Author.Tests.{ltb-true, not-true, not-false}
 use Rattle.rules.specs.Refusal.{unless, firstOf}
 use Rattle.rules.specs.Lists.{allTrue, every}

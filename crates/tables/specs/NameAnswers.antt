@@ -6,7 +6,7 @@
 --     nodesIn, nameWordOf   how many nodes section 1 has, and the name word of one of them
 -- Assumes nothing.
 use Prim.Native.Nat.{ℕ, _+_}
-use mathlib.Core.Bool.{Bool, true, false}
+use mathlib.Core.Bool.{Bool, false}
 use mathlib.Core.Option.{Option, none, some}
 use mathlib.Core.List.{List}
 use lib.ListN.{length, getD, drop}

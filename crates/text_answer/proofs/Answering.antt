@@ -174,6 +174,10 @@ accepted-shown call k result e f =
     let d = accepted-answer house impl call (sym (ap (λ a. a .number) e)) in
     ap acceptedText (f ∙ ap (resultOf (call .resultRoom)) (d .1)) ∙ accepted-is (d .0) _ ∙ ap printed (sym (d .1))
 
+pub refuse-is : (w : Reason) (n s p : ℕ) → n ≡ refusalOf w .reason → s ≡ refusalOf w .section → p ≡ refusalOf w .position
+    → _≡_ {A = Out Accepted} (refused (refusalOf w)) (refuse n s p)
+refuse-is w n s p en es ep = rw (en, es, ep)
+
 pub refused-shown : (call : Call) (w : Reason) (n s p : ℕ) → n ≡ refusalOf w .reason → s ≡ refusalOf w .section → p ≡ refusalOf w .position
     → answered (Refused w) ≡ left house impl call .answer → printed (refuse n s p) ≡ printed (outcome house impl call)
 unfolding left

@@ -1,11 +1,14 @@
 // What the program prints, once the numbers of a text are read: sections and names are cut, the call is made, its answer is printed.
 use optimize::optimize::optimize_model_impl;
 use optimize::walk::Optimized;
+use tables::limits::HIGHEST_MODE;
 use text::printer::Place;
 use text::printer::print_accepted;
 use text::printer::print_refused;
+use text::reader::NUMBERS;
 use text::reader::Numbers;
 use text::reader::read_text;
+use text::split::BYTES;
 use text::split::End;
 use text::split::Names;
 use text::split::names_bytes;
@@ -42,7 +45,7 @@ fn refused(number: u64, section: u64, position: u64, out: &mut [u8; ROOM]) -> us
 }
 
 // The call, with so many names bytes, and its answer printed.
-fn call(mode: u64, words: &[u64], names: &[u8; 4097], size: usize, out: &mut [u8; ROOM]) -> usize
+fn call(mode: u64, words: &[u64], names: &[u8; BYTES], size: usize, out: &mut [u8; ROOM]) -> usize
     requires { ⌜ size ≤ 4097 ⌝ }
     ensures { λ r. ⌜ Shown (now (out .entry)) (now (out .exit)) r (printed (outcome house impl (callOf mode (now (words .entry)) (take size (now (names .entry)))))) ⌝ }
 {
@@ -58,7 +61,7 @@ fn call(mode: u64, words: &[u64], names: &[u8; 4097], size: usize, out: &mut [u8
 // The numbers behind the sections, which end at a place of those after the mode, are the names.
 fn with_names(
     mode: u64,
-    numbers: &[u64; 4096],
+    numbers: &[u64; NUMBERS],
     count: usize,
     end: usize,
     out: &mut [u8; ROOM],
@@ -68,7 +71,7 @@ fn with_names(
     ensures { λ r. ⌜ Shown (now (out .entry)) (now (out .exit)) r (printed (afterNumbers house (mode, afterMode (now (numbers .entry)) count))) ⌝ }
 {
     let kept: &[u64] = numbers;
-    let mut bytes = [0u8; 4097];
+    let mut bytes = [0u8; BYTES];
     match names_bytes(numbers, 1 + end, count, &mut bytes) {
         Names::NamesOver => refused(2, 7, 0, out),
         Names::NamesShort => refused(1, 7, 0, out),
@@ -77,19 +80,18 @@ fn with_names(
 }
 
 // So many numbers: the mode, the sections and the names.
-fn with_mode(numbers: &[u64; 4096], count: usize, out: &mut [u8; ROOM]) -> usize
+fn with_mode(numbers: &[u64; NUMBERS], count: usize, out: &mut [u8; ROOM]) -> usize
     requires { ⌜ (0 < count) × (count ≤ 4096) ⌝ }
     ensures { λ r. ⌜ Shown (now (out .entry)) (now (out .exit)) r (printed (afterNumbers house (getD (now (numbers .entry)) 0 0, afterMode (now (numbers .entry)) count))) ⌝ }
 {
     let kept: &[u64] = numbers;
     let mode = kept[0];
-    if mode > 7 {
+    if mode > HIGHEST_MODE {
         return refused(1, 0, 0, out);
     }
     match sections_end(&kept[1..count]) {
         End::At(end) => with_names(mode, numbers, count, end, out),
-        End::Over(section) => refused(2, section, 0, out),
-        End::Short(section) => refused(1, section, 0, out),
+        End::Refused(why) => refused(why.number(), why.section(), why.position() as u64, out),
     }
 }
 
@@ -100,14 +102,14 @@ fn within(numbers: &[u64], count: usize) -> usize
     if count == 0 {
         return 1;
     }
-    if count > 4096 {
-        return 4096;
+    if count > NUMBERS {
+        return NUMBERS;
     }
     count
 }
 
 // The answer to the numbers that were read, or to the refusal of reading, printed from the buffer's front on. It tells how many bytes.
-pub fn answer(read: Numbers, numbers: &[u64; 4096], out: &mut [u8; ROOM]) -> usize
+pub fn answer(read: Numbers, numbers: &[u64; NUMBERS], out: &mut [u8; ROOM]) -> usize
     ensures { λ r. ⌜ Shown (now (out .entry)) (now (out .exit)) r (printed (answerAfter (answerOf read (now (numbers .entry))))) ⌝ }
 {
     let kept: &[u64] = numbers;
@@ -122,7 +124,7 @@ pub fn answer(read: Numbers, numbers: &[u64; 4096], out: &mut [u8; ROOM]) -> usi
 pub fn answer_text(text: &[u8], out: &mut [u8; ROOM]) -> usize
     ensures { λ r. ⌜ Shown (now (out .entry)) (now (out .exit)) r (program (now (text .entry))) ⌝ }
 {
-    let mut numbers = [0u64; 4096];
+    let mut numbers = [0u64; NUMBERS];
     let read = read_text(text, &mut numbers);
     answer(read, &numbers, out)
 }

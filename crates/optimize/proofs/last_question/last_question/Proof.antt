@@ -1,13 +1,12 @@
 -- By how many bads are left: none, one or several.
 -- Assumes nothing.
 use borrow.Author.Needs.{needs}
-use mathlib.Core.Path.{_≡_, refl, sym, ap, _∙_}
+use mathlib.Core.Path.{refl, sym, _∙_}
 use native.Mathlib.Omega.{arith}
-use lib.ListN.{length, take, getD}
+use lib.ListN.{take}
 use Rattle.optimize.specs.Lists.{entriesOf}
 use Rattle.optimize.proofs.Entries.{entries-length, entry-at, first-place}
 use Rattle.optimize.proofs.LastQuestion.{last-none, last-one, last-many}
-use Prim.Native.Nat.{_+_}
 use Rattle.optimize.proofs.last_question.last_question.Statement.{statement}
 use Rattle.optimize.proofs.last_question.last_question.Tie as tie
 

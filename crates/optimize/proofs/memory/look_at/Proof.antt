@@ -1,7 +1,7 @@
 -- `look_at` by the words of the row at that place.
 -- Assumes nothing.
 use borrow.Author.Needs.{needs}
-use mathlib.Core.Path.{_≡_, sym, ap, _∙_}
+use mathlib.Core.Path.{sym, ap, _∙_}
 use native.Mathlib.Omega.{arith}
 use Rattle.btor.specs.Readings.{readingIs}
 use Rattle.optimize.specs.View.{constantIs}

@@ -6,7 +6,6 @@ use native.Mathlib.Omega.{arith}
 use Prim.Native.Nat.{_+_}
 use lib.ListN.{length}
 use Rattle.optimize.specs.Runs.{modelIn}
-use mathlib.Core.Bool.{true}
 use Rattle.optimize.proofs.BadsJoined.{judged-refused, judged-done, lists-fit, model-of}
 use Rattle.optimize.proofs.OnceJoined.{spare-place, before-place, answered-refused, answered-done, last-made, last-asks, once-ended, once-first, once-last, once-done}
 use Rattle.optimize.specs.CallWords.{inputsIn, repliesIn, modeIn}

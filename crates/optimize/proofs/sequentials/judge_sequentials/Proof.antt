@@ -1,12 +1,12 @@
 -- The first i sequentials are judged; what the rules make of the list is what they make of the rest, after those kept.
 -- Assumes nothing.
 use borrow.Author.Needs.{needs}
-use Prim.Native.Nat.{ℕ, suc, _+_, _-_, _*_, _≤_}
-use mathlib.Core.Path.{_≡_, refl, sym, ap, _∙_}
+use Prim.Native.Nat.{ℕ, _+_, _-_, _*_, _≤_}
+use mathlib.Core.Path.{_≡_, refl, ap, _∙_}
 use mathlib.Core.List.{List}
 use native.Mathlib.Omega.{arith}
 use native.Mathlib.Numerals.{add-one}
-use lib.ListN.{length, getD, drop, drop-of-length-le}
+use lib.ListN.{length, drop, drop-of-length-le}
 use lib.Seq.{drop-cons}
 use Rattle.rules.specs.Walk.{Held}
 use Rattle.rules.specs.Legal.{Sequential}

@@ -3,10 +3,9 @@
 use borrow.Author.Needs.{needs}
 use Prim.Native.Nat.{ℕ}
 use mathlib.Core.Path.{_≡_, sym, ap, _∙_}
-use mathlib.Core.Option.{Option}
 use mathlib.Core.List.{List}
 use lib.ListN.{length}
-use Rattle.rules.specs.Refusal.{Refusal, done}
+use Rattle.rules.specs.Refusal.{done}
 use Rattle.rules.specs.Model.{Mode}
 use Rattle.rules.specs.Names.{namesOf}
 use Rattle.rules.specs.Call.{judgeMode, judgeRoom, needOf}

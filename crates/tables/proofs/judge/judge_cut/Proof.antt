@@ -1,7 +1,7 @@
 -- `judge_cut` is `check`: the first refusal of nodes, sequentials, initial bads and sequential bads.
 -- Assumes nothing.
 use borrow.Author.Needs.{needs}
-use mathlib.Core.Path.{_≡_, sym, ap, _∙_}
+use mathlib.Core.Path.{sym, ap, _∙_}
 use mathlib.Core.List.{[]}
 use Rattle.rules.specs.Check.{check, checkNodes, checkSequentials, checkBads}
 use Rattle.tables.specs.Refusals.{refusalOf}

@@ -1,7 +1,7 @@
 -- `is_bad` is rule 6 of a bad entry.
 -- Assumes nothing.
 use borrow.Author.Needs.{needs}
-use mathlib.Core.Path.{_≡_, _∙_}
+use mathlib.Core.Path.{_∙_}
 use Rattle.tables.proofs.ListLaws.{bad-entry}
 use Rattle.tables.proofs.lists.is_bad.Statement.{statement}
 use Rattle.tables.proofs.lists.is_bad.Tie as tie

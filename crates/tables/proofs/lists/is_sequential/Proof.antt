@@ -1,7 +1,6 @@
 -- `is_sequential` is rule 6 of a sequential.
 -- Assumes nothing.
 use borrow.Author.Needs.{needs}
-use mathlib.Core.Path.{_≡_, _∙_}
 use Rattle.tables.proofs.ListLaws.{sequential-entry}
 use Rattle.tables.proofs.lists.is_sequential.Statement.{statement}
 use Rattle.tables.proofs.lists.is_sequential.Tie as tie

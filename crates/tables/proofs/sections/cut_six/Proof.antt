@@ -1,7 +1,7 @@
 -- `cut_six` cuts the six sections one after the other: each is `cutSection` of the words after the one before it.
 -- Assumes nothing.
 use borrow.Author.Needs.{needs}
-use mathlib.Core.Path.{_≡_, sym, ap, _∙_}
+use mathlib.Core.Path.{sym, ap, _∙_}
 use Rattle.rules.specs.Table.{rowWidth}
 use Rattle.rules.specs.Sections.{cutSix}
 use Rattle.tables.specs.SectionAnswers.{foundOf}

@@ -1,8 +1,8 @@
 -- `section_at` cuts one section: what it answers is `cutSection` of the words from its place on.
 -- Assumes nothing.
 use borrow.Author.Needs.{needs}
-use Prim.Native.Nat.{ℕ, _+_, _*_, _≤_}
-use mathlib.Core.Path.{_≡_, refl, sym}
+use Prim.Native.Nat.{ℕ}
+use mathlib.Core.Path.{refl, sym}
 use native.Mathlib.Omega.{arith}
 use native.Mathlib.Nat.{mul-le-mul}
 use Rattle.rules.proofs.Sections.{nothing-at, over-at, short-at, whole-at}

@@ -1,9 +1,9 @@
 -- `with_mode` meets its contract: the mode, then the sections, are refused, or the names follow.
 -- Assumes nothing.
 use borrow.Author.Needs.{needs}
-use mathlib.Core.Path.{_≡_, refl}
+use mathlib.Core.Path.{_≡_, refl, _∙_}
 use lib.ListN.{length, getD}
-use Rattle.text_answer.proofs.Answering.{shown-out, mode-refused, sections-stop, sections-cut, sections-at}
+use Rattle.text_answer.proofs.Answering.{shown-out, mode-refused, sections-stop, sections-cut, sections-at, refuse-is}
 use Rattle.text_answer.proofs.answer.with_mode.Statement.{statement}
 use Rattle.text_answer.proofs.answer.with_mode.Tie as tie
 
@@ -43,26 +43,32 @@ with-names-requires c κs =
       sections-cut (getD ws 0 0) ws count _ read _ told,
     )
 
-enum-known-section : tie.Need-enum-known-section
-enum-known-section c = search needs
+enum-known-why : tie.Need-enum-known-why
+enum-known-why c = search needs
+
+number-requires : tie.Need-number-requires
+number-requires c κs = search needs
+
+section-requires : tie.Need-section-requires
+section-requires c κs = search needs
+
+position-requires : tie.Need-position-requires
+position-requires c κs = search needs
 
 refused-requires-2 : tie.Need-refused-requires-2
 refused-requires-2 c κs = search needs
-
-enum-known-section-2 : tie.Need-enum-known-section-2
-enum-known-section-2 c = search needs
-
-refused-requires-3 : tie.Need-refused-requires-3
-refused-requires-3 c κs = search needs
 
 returns-2 : tie.Need-returns-2
 returns-2 c = search needs
 
 returns-3 : tie.Need-returns-3
-returns-3 c = shown-out (sections-stop _ ((c .before .before .before .before .before .before .before .before .before .before) .args .numbers .now) ((c .before .before .before .before .before .before .before .before .before .before) .args .count) _ ((c .before .before .before .before .before .sections-end) .ensures .0) _ _ ((c .before .before .before .before .before .before .before .if1) .left) ((c .before .before .before .section) .given .1) refl) ((c .refused2) .ensures)
-
-returns-4 : tie.Need-returns-4
-returns-4 c = shown-out (sections-stop _ ((c .before .before .before .before .before .before .before .before .before .before) .args .numbers .now) ((c .before .before .before .before .before .before .before .before .before .before) .args .count) _ ((c .before .before .before .before .before .sections-end) .ensures .0) _ _ ((c .before .before .before .before .before .before .before .if1) .left) ((c .before .before .before .section2) .given .1) refl) ((c .refused3) .ensures)
+returns-3 c =
+    let a = c .before .before .before .before .before .before .before .before .before .before .before .before .before .args in
+    let why = c .before .before .before .before .before .before .why .given in
+    shown-out
+    (sections-stop _ (a .numbers .now) (a .count) _ (c .before .before .before .before .before .before .before .before .sections-end .ensures .0) _ _ (c .before .before .before .before .before .before .before .before .before .before .if1 .left) (why .1) refl
+    ∙ refuse-is (why .0 .0) _ _ _ (c .before .before .before .before .number .ensures) (c .before .before .before .section .ensures) (c .before .before .position .ensures))
+    (c .refused2 .ensures)
 
 pub with-mode-spec : {M : Type 1} → statement M
 with-mode-spec =
@@ -77,10 +83,10 @@ with-mode-spec =
     sections-end-requires
     enum-known-end
     with-names-requires
-    enum-known-section
+    enum-known-why
+    number-requires
+    section-requires
+    position-requires
     refused-requires-2
-    enum-known-section-2
-    refused-requires-3
     returns-2
-    returns-3
-    returns-4)
+    returns-3)

@@ -1,7 +1,6 @@
 -- `apply` calls the operator that is named; one arm for each. Six are the same in both readings.
 -- Assumes nothing.
 use borrow.Author.Needs.{needs}
-use mathlib.Core.Path.{_≡_}
 use Rattle.btor.specs.Operators.{compute}
 use Rattle.optimize.proofs.fold.Operator.apply.Statement.{statement}
 use Rattle.optimize.proofs.fold.Operator.apply.Tie as tie
