@@ -2,6 +2,8 @@
 # Wrong edits of large crates, those with a folder edits/, each of which the prover must refuse at the places that the edit names. A must-fail
 # edit of rt checks its crate from nothing; here a crate is proved once, and each edit is checked over its incremental folder.
 #     tests/edits.sh [FOLDER]           works in FOLDER, which is kept; a temporary one unless given
+# The libraries that these crates are built on are those of target/. Where BESIDE is set they are waited for: another run proves them from nothing,
+# and leaves a file of that name when it ends.
 # An edit, crates/CRATE/edits/NAME.edit, has the form of a must-fail edit, and for each place that it leaves without a proof a line
 #     refused: fn CRATE::MODULE::FUNCTION at NEED
 #     refused: proofs/FILE.antt at NAME
@@ -12,11 +14,22 @@ export LC_ALL
 cd "$(dirname "$0")/.." || exit 1
 
 # A copy of the crates, with the libraries that were proved in another folder: rt takes them if nothing that they are made of has changed.
-prepare() { # FOLDER [OTHER]
-    rm -rf "$1/crates"
-    mkdir -p "$1/target/inc" && cp -R crates crates.txt "$1/" || return 1
-    for part in rlib stamp; do
-        [ $# -lt 2 ] || [ ! -d "$2/target/$part" ] || cp -R "$2/target/$part" "$1/target/" || return 1
+prepare() { # FOLDER OTHER
+    rm -rf "$1/crates" "$1/target/rlib" "$1/target/stamp"
+    mkdir -p "$1/target/inc" "$1/target/rlib" "$1/target/stamp" && cp -R crates crates.txt "$1/" || return 1
+    for name in $below; do
+        [ -f "$2/target/stamp/$name" ] || continue
+        cp -R "$2/target/rlib/$name.rlib" "$1/target/rlib/" && cp "$2/target/stamp/$name" "$1/target/stamp/" || return 1
+    done
+}
+
+# Waits for the libraries below; status 1 if the run that proves them ends without them. A library has its stamp once it is whole.
+await_below() {
+    for name in $below; do
+        until [ -f "target/stamp/$name" ]; do
+            [ ! -f "$BESIDE" ] || [ -f "target/stamp/$name" ] || return 1
+            sleep 1
+        done
     done
 }
 
@@ -201,8 +214,9 @@ for folder in crates/*/edits; do
     [ -d "$work/told/${crate%/edits}" ] || give_up "$folder belongs to no crate of crates.txt"
 done
 
-# The libraries below are proved once. Where they stand in target/ already they are taken from there, unless FROM_NOTHING is set.
-if [ -n "${FROM_NOTHING:-}" ]; then prepare "$work/one"; else prepare "$work/one" .; fi || give_up "$work cannot be written"
+# The libraries below are taken from target/, and proved here where they do not stand there.
+[ -z "${BESIDE:-}" ] || await_below || give_up "a library below was not proved beside this"
+prepare "$work/one" . || give_up "$work cannot be written"
 if [ -n "$below" ]; then
     # shellcheck disable=SC2086
     (cd "$work/one" && rt check $below) >"$work/below.log" 2>&1 || { tail -n 5 "$work/below.log"; give_up "a library below is not proved"; }

@@ -26,13 +26,14 @@ use Rattle.optimize.specs.declared.walk.Visited.{Visited}
 use Rattle.optimize.specs.declared.fold.Constant.{Constant}
 use Rattle.optimize.specs.declared.fold.Rule.{Rule}
 use Rattle.optimize.specs.declared.fold.Single.{Single}
+use Rattle.optimize.specs.declared.form.Pair.{Pair}
 use Rattle.optimize.specs.declared.memory.Found.{Found}
 use Rattle.optimize.specs.declared.memory.Search.{Search}
 use Rattle.optimize.specs.Bounds.{countOf}
 use Rattle.rules.specs.Sections.{wordOf}
 use Rattle.optimize.specs.View.{nodeOf, tableOf, rowsOf, view, outcomeOf, constantIs, waysIn, Meets}
 use Rattle.optimize.specs.Folding.{foldTwo, foldOne, asksBit, valueIs, searchIs}
-use Rattle.optimize.specs.Process.{isStays, thenAsk, settleThen, bitOf, takeOf, afterOne, afterTwo, afterRead, afterIte}
+use Rattle.optimize.specs.Process.{isStays, thenAsk, settleThen, bitOf, takeOf, afterOne, afterRule, afterRead, afterTwo, afterIte}
 use Rattle.optimize.proofs.Steps.{table-length}
 use Rattle.optimize.proofs.Asks.{is-stay, chain-bit-more, chain-two}
 
@@ -70,17 +71,27 @@ module _ (h : List Held) (g inputs replies R S : List ℕ) (w : Walk) (ways : Wa
   unfolding view
   one-is rule x F e = ap (settle (tableOf g) ways k (view h g inputs replies R S w)) e
 
-  pub two-is : (rule : Rule) (x y : ℕ) (how : Reading) (F : Fold) (b : Bool) → how ≡ ways .reading
+  pub rule-is : (rule : Rule) (x y : ℕ) (how : Reading) (F : Fold) (b : Bool) → how ≡ ways .reading
       → F ≡ foldTwo how rule (countOf g) (wordOf g k 1) x y (constOf (rowsOf (countOf g) (w .made) R) x) (constOf (rowsOf (countOf g) (w .made) R) y)
       → b ≡ asksBit rule (wordOf g k 1)
-      → finish (tableOf g) ways k (view h g inputs replies R S w) F (bitOf g ways k b) ≡ afterTwo g ways rule (view h g inputs replies R S w) k x y
+      → finish (tableOf g) ways k (view h g inputs replies R S w) F (bitOf g ways k b) ≡ afterRule g ways rule (view h g inputs replies R S w) k x y
   unfolding view
-  two-is rule x y how F b q e d = rw (e, q, d)
+  rule-is rule x y how F b q e d = rw (e, q, d)
 
   pub read-is : (x y : ℕ) (c : Option ℕ) → c ≡ constOf (rowsOf (countOf g) (w .made) R) y
       → forward (tableOf g) ways k (view h g inputs replies R S w) x c ≡ afterRead g ways (view h g inputs replies R S w) k x y
   unfolding view
   read-is x y c e = ap (forward (tableOf g) ways k (view h g inputs replies R S w) x) e
+
+-- ---- what a node of two operands does with them
+module _ (g : List ℕ) (ways : Ways) (σ : St) (k x y : ℕ) (pair : Pair) where
+  pub two-folds : (rule : Rule) → pair ≡ Pair.Folds rule → afterRule g ways rule σ k x y ≡ afterTwo g ways pair σ k x y
+  unfolding afterTwo
+  two-folds rule e = sym (ap (λ z. afterTwo g ways z σ k x y) e)
+
+  pub two-reads : pair ≡ Pair.Reads → afterRead g ways σ k x y ≡ afterTwo g ways pair σ k x y
+  unfolding afterTwo
+  two-reads e = sym (ap (λ z. afterTwo g ways z σ k x y) e)
 
 -- ---- forwarding
 module _ (h : List Held) (g inputs replies R S : List ℕ) (w : Walk) (ways : Ways) (k m : ℕ) where

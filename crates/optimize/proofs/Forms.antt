@@ -14,13 +14,14 @@ use Rattle.rules.specs.Walk.{St}
 use Rattle.rules.specs.Fold.{stays, constOf}
 use Rattle.rules.specs.Visit.{Ways, Branch, left, right, undecided, branch, visit1, visit2, visit3, unary, binary, iteOn, process}
 use Rattle.optimize.specs.declared.form.Form.{Form}
+use Rattle.optimize.specs.declared.form.Pair.{Pair}
 use Rattle.optimize.specs.Bounds.{countOf}
 use Rattle.rules.specs.Sections.{wordOf}
 use Rattle.optimize.specs.View.{nodeOf, tableOf}
 use Rattle.optimize.specs.declared.fold.Rule.{Rule}
 use Rattle.optimize.specs.declared.fold.Single.{Single}
 use Rattle.optimize.specs.Folding.{operatorOf}
-use Rattle.optimize.specs.Process.{formOf, formAt, afterOne, afterTwo, afterRead, takeOf, processOf, oneOf, twoThen, twoOf, threeOf, chosenOf, iteOf, stepOf, byForm, Before}
+use Rattle.optimize.specs.Process.{formOf, formAt, afterOne, afterTwo, takeOf, processOf, oneOf, twoThen, twoOf, threeOf, chosenOf, iteOf, stepOf, byForm, Before}
 use Rattle.optimize.proofs.FoldLaws.{op-is}
 use Rattle.optimize.proofs.Steps.{table-length}
 use Rattle.optimize.proofs.Walks.{node-at}
@@ -49,8 +50,8 @@ module _ (g : List ℕ) (ways : Ways) (vis : St → ℕ → Out (St × ℕ)) (σ
       sym (assoc (vis σ (wordOf g k 2)) _ _
       ∙ bind-same (vis σ (wordOf g k 2)) _ _ (λ p. assoc (vis (p .0) (wordOf g k 3)) _ _))
 
-  two-is : (rule : Rule) → twoOf g ways vis rule σ k ≡ (visit2 vis σ k (nodeOf g k) >>= λ p. afterTwo g ways rule (p .0) k (p .1 .0) (p .1 .1))
-  two-is rule = two-then (afterTwo g ways rule)
+  two-is : (pair : Pair) → twoOf g ways vis pair σ k ≡ (visit2 vis σ k (nodeOf g k) >>= λ p. afterTwo g ways pair (p .0) k (p .1 .0) (p .1 .1))
+  two-is pair = two-then (afterTwo g ways pair)
 
   three-is : threeOf g ways vis σ k ≡ byKind Write
   unfolding process visit3
@@ -79,17 +80,17 @@ module _ (g : List ℕ) (ways : Ways) (vis : St → ℕ → Out (St × ℕ)) (σ
   state-is false e = sym (ap (λ b. elim b [ true ↦ unary (tableOf g) ways vis σ k (nodeOf g k) (λ x. stays) | false ↦ takeOf g ways σ k ]) e)
 
   pub form-is : (K : Kind) → byForm g ways vis (formOf K (wordOf g k 3)) σ k ≡ byKind K
-  unfolding byForm formOf process unary binary
+  unfolding byForm formOf afterTwo process unary binary
   form-is Const = rw (table-length g)
-  form-is Read = two-then (afterRead g ways)
+  form-is Read = two-is Pair.Reads
   form-is Write = three-is
-  form-is (Word op) = two-is (Rule.Word (operatorOf op)) ∙ simp (op-is op)
-  form-is Ult = two-is Rule.Ult ∙ rw (table-length g)
+  form-is (Word op) = two-is (Pair.Folds (Rule.Word (operatorOf op))) ∙ simp (op-is op)
+  form-is Ult = two-is (Pair.Folds Rule.Ult) ∙ rw (table-length g)
   form-is Ext = one-is Single.Ext
   form-is Ite = ite-is
-  form-is Eq = two-is Rule.Eq ∙ rw (table-length g)
-  form-is And = two-is Rule.And ∙ rw (table-length g)
-  form-is Or = two-is Rule.Or
+  form-is Eq = two-is (Pair.Folds Rule.Eq) ∙ rw (table-length g)
+  form-is And = two-is (Pair.Folds Rule.And) ∙ rw (table-length g)
+  form-is Or = two-is (Pair.Folds Rule.Or)
   form-is Not = one-is Single.Not ∙ rw (table-length g)
   form-is State = state-is (eqb (wordOf g k 3) 1) refl
   form-is Next = step-is

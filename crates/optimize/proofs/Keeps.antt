@@ -23,6 +23,7 @@ use Rattle.rules.proofs.Structure.{visit-went}
 use Rattle.optimize.specs.declared.walk.Walk.{Walk}
 use Rattle.optimize.specs.declared.walk.Visited as Answer
 use Rattle.optimize.specs.declared.form.Form.{Form}
+use Rattle.optimize.specs.declared.form.Pair.{Pair}
 use Rattle.optimize.specs.Bounds.{countOf}
 use Rattle.rules.specs.Sections.{wordOf}
 use Rattle.optimize.specs.View.{nodeOf, Coded, rowOf, RowKept, tableOf, waysIn, rowsOf, markOf, questionOf, view}
@@ -92,22 +93,22 @@ pub room-row : (g R Q S : List ℕ) (w : Walk) (k : ℕ) → length Q ≡ length
 room-row g R Q S w k p r =
     record { inside = r .inside; small = r .small; whole = r .whole; room = omega (arith, r .room); few = r .few; asks = r .asks; looks = r .looks; passed = r .passed }
 
--- a Read is no Write
-read-no-write : (K : Kind) (b : ℕ) → Form.Read ≡ formOf K b → eqb (kindCode K) 3 ≡ true → ⊥
+-- a node of the form of two operands is no Write
+two-no-write : (pair : Pair) (K : Kind) (b : ℕ) → Form.Two pair ≡ formOf K b → eqb (kindCode K) 3 ≡ true → ⊥
 unfolding formOf
-read-no-write K b e q =
+two-no-write pair K b e q =
     let d : K ≡ Write = Rattle.rules.proofs.Base.is-kind Write (record { kind = K; sort = 0; a = 0; b = 0; c = 0; name = 0 }) q in
-    let z : Form.Read ≡ formOf Write b = e ∙ ap (λ J. formOf J b) d in
+    let z : Form.Two pair ≡ formOf Write b = e ∙ ap (λ J. formOf J b) d in
     let o : _≡_ {A = ℕ} 0 1 = cc in
     omega arith
 
--- the row of a Read put: the Writes are as they were
-pub falls-row : (h : List Held) (g inputs replies R Q S : List ℕ) (w : Walk) (k x y c : ℕ) → Form.Read ≡ formAt g k
+-- the row of such a node put: the Writes are as they were
+pub falls-row : (h : List Held) (g inputs replies R Q S : List ℕ) (w : Walk) (pair : Pair) (k x y c : ℕ) → Form.Two pair ≡ formAt g k
     → view h g inputs replies Q S w ≡ setRow (view h g inputs replies R S w) k (with (nodeOf g k) x y c) → Falls (countOf g) (w .made) R → Falls (countOf g) (w .made) Q
 unfolding view
-falls-row h g inputs replies R Q S w k x y c e v p =
+falls-row h g inputs replies R Q S w pair k x y c e v p =
     let same : rowsOf (countOf g) (w .made) Q ≡ put (rowsOf (countOf g) (w .made) R) k (with (nodeOf g k) x y c) = ap (λ (σ : St). σ .rows) v in
-    let none : is Write (with (nodeOf g k) x y c) ≡ true → ⊥ = read-no-write (kindOf (wordOf g k 0)) (wordOf g k 3) e in
+    let none : is Write (with (nodeOf g k) x y c) ≡ true → ⊥ = two-no-write pair (kindOf (wordOf g k 0)) (wordOf g k 3) e in
     record {
       memory = λ m b. subst (λ (r : ℕ → Node). is Write (r m) ≡ true → r m .a < countOf g → r m .a < m) (sym same)
           (put-all (λ m (nd : Node). m < countOf g → is Write nd ≡ true → nd .a < countOf g → nd .a < m) (rowsOf (countOf g) (w .made) R) k (with (nodeOf g k) x y c) (λ _ q. absurd (none q)) (p .memory) m b);

@@ -23,7 +23,7 @@ use Rattle.optimize.specs.declared.fold.Single.{Single}
 use Rattle.optimize.specs.Bounds.{countOf}
 use Rattle.rules.specs.Sections.{wordOf}
 use Rattle.optimize.specs.View.{nodeOf, tableOf, rowsOf, markOf, markBy, view, outcomeOf, constantIs, Meets}
-use Rattle.optimize.specs.Process.{afterOne, afterIte, visitOf, processOf, oneOf, twoThen, threeOf, leftOf, rightOf, bothOf, chosenOf, iteOf, valueOf, stepOf}
+use Rattle.optimize.specs.Process.{afterOne, afterIte, visitOf, processOf, oneOf, twoThen, threeOf, leftOf, rightOf, bothOf, chosenOf, iteOf, stepOf}
 use Rattle.optimize.proofs.Views.{mark-below, firsts-at}
 
 -- ---- outcomes
@@ -122,15 +122,17 @@ module _ (g inputs replies : List ℕ) (ways : Ways) (vis : St → ℕ → Out (
     pub ite-stop : a ≡ wordOf g k 2 → Meets g inputs replies r Q T (iteOf g ways vis σ k)
     ite-stop e = stops g inputs replies vis σ r R S Q T a (wordOf g k 2) e _ z m d
 
-    pub value-stop : a ≡ wordOf g k 3 → Meets g inputs replies r Q T (valueOf g ways vis σ k)
-    value-stop e = stops g inputs replies vis σ r R S Q T a (wordOf g k 3) e _ z m d
-
     pub step-stop : a ≡ wordOf g k 2 → Meets g inputs replies r Q T (stepOf g ways vis σ k)
     step-stop e = stops g inputs replies vis σ r R S Q T a (wordOf g k 2) e _ z m d
 
   module _ (a : ℕ) (σ₁ : St) (x : ℕ) (v : vis σ a ≡ done (σ₁, x)) (b : ℕ) (z : Refusal) (m : Meets g inputs replies r R S (vis σ₁ b)) (d : r ≡ Visited.Refused z) where
     pub two-stop-2 : (after : St → ℕ → ℕ → ℕ → Out (St × ℕ)) → a ≡ wordOf g k 2 → b ≡ wordOf g k 3 → Meets g inputs replies r Q T (twoThen g ways vis after σ k)
     two-stop-2 after e i =
+        goes g inputs replies vis σ r R S Q T a (wordOf g k 2) e _ (σ₁, x) v
+        (stops g inputs replies vis σ₁ r R S Q T b (wordOf g k 3) i _ z m d)
+
+    pub step-stop-2 : a ≡ wordOf g k 2 → b ≡ wordOf g k 3 → Meets g inputs replies r Q T (stepOf g ways vis σ k)
+    step-stop-2 e i =
         goes g inputs replies vis σ r R S Q T a (wordOf g k 2) e _ (σ₁, x) v
         (stops g inputs replies vis σ₁ r R S Q T b (wordOf g k 3) i _ z m d)
 
@@ -151,16 +153,12 @@ module _ (g inputs replies : List ℕ) (ways : Ways) (vis : St → ℕ → Out (
       (goes g inputs replies vis σ₁ r R S Q T b (wordOf g k 3) i _ (σ₂, y) u
       (stops g inputs replies vis σ₂ r R S Q T c (wordOf g k 4) j _ z m d))
 
-  -- a branch is chosen; the next value of a Next comes after its state
+  -- a branch is chosen
   pub ite-go : (a : ℕ) (σ₁ : St) (x : ℕ) (br : Branch) → vis σ a ≡ done (σ₁, x) → a ≡ wordOf g k 2 → branch (constOf (σ₁ .rows) x) ≡ br
       → Meets g inputs replies r Q T (chosenOf g ways vis br x σ₁ k) → Meets g inputs replies r Q T (iteOf g ways vis σ k)
   ite-go a σ₁ x br v e q m =
       goes g inputs replies vis σ r R S Q T a (wordOf g k 2) e _ (σ₁, x) v
       (m .0, m .1 ∙ ap (λ z. chosenOf g ways vis z x σ₁ k) (sym q))
-
-  pub step-go : (a : ℕ) (σ₁ : St) (x : ℕ) → vis σ a ≡ done (σ₁, x) → a ≡ wordOf g k 2
-      → Meets g inputs replies r Q T (valueOf g ways vis σ₁ k) → Meets g inputs replies r Q T (stepOf g ways vis σ k)
-  step-go a σ₁ x v e m = goes g inputs replies vis σ r R S Q T a (wordOf g k 2) e _ (σ₁, x) v m
 
 -- ---- the members of the cycle: all visits done, the row put, and what comes after
 module _ (g : List ℕ) (ways : Ways) (vis : St → ℕ → Out (St × ℕ)) (k : ℕ) (σ σ₁ : St) (x a : ℕ) (va : vis σ a ≡ done (σ₁, x)) where
@@ -185,12 +183,6 @@ module _ (g : List ℕ) (ways : Ways) (vis : St → ℕ → Out (St × ℕ)) (k 
       eo ∙ ap (λ s. settle (tableOf g) ways k s (swap x)) (et ∙ ap (λ z. setRow σ₁ k (with (nodeOf g k) c z x)) ed)
       ∙ sym (bind-done (vis σ (wordOf g k 4)) (σ₁, x) _ (at (wordOf g k 4) ea))
 
-  pub value-go : (c d : ℕ) (τ : St) (o : Out (St × ℕ)) → a ≡ wordOf g k 3 → c ≡ wordOf g k 2 → d ≡ wordOf g k 4
-      → τ ≡ setRow σ₁ k (with (nodeOf g k) c x d) → o ≡ settle (tableOf g) ways k τ stays → o ≡ valueOf g ways vis σ k
-  value-go c d τ o ea ec ed et eo =
-      eo ∙ ap (λ s. settle (tableOf g) ways k s stays) (et ∙ ap₂ (λ y z. setRow σ₁ k (with (nodeOf g k) y x z)) ec ed)
-      ∙ sym (bind-done (vis σ (wordOf g k 3)) (σ₁, x) _ (at (wordOf g k 3) ea))
-
   module _ (σ₂ : St) (y b : ℕ) (vb : vis σ₁ b ≡ done (σ₂, y)) where
     at-2 : (c : ℕ) → b ≡ c → vis σ₁ c ≡ done (σ₂, y)
     at-2 c e = ap (vis σ₁) (sym e) ∙ vb
@@ -199,6 +191,13 @@ module _ (g : List ℕ) (ways : Ways) (vis : St → ℕ → Out (St × ℕ)) (k 
         → τ ≡ setRow σ₂ k (with (nodeOf g k) x y c) → o ≡ after τ k x y → o ≡ twoThen g ways vis after σ k
     two-go after c τ o ea eb ec et eo =
         eo ∙ ap (λ s. after s k x y) (et ∙ ap (λ z. setRow σ₂ k (with (nodeOf g k) x y z)) ec)
+        ∙ sym (bind-done (vis σ (wordOf g k 2)) (σ₁, x) _ (at (wordOf g k 2) ea)
+        ∙ bind-done (vis σ₁ (wordOf g k 3)) (σ₂, y) _ (at-2 (wordOf g k 3) eb))
+
+    pub step-go : (c d : ℕ) (τ : St) (o : Out (St × ℕ)) → a ≡ wordOf g k 2 → b ≡ wordOf g k 3 → c ≡ wordOf g k 2 → d ≡ wordOf g k 4
+        → τ ≡ setRow σ₂ k (with (nodeOf g k) c y d) → o ≡ settle (tableOf g) ways k τ stays → o ≡ stepOf g ways vis σ k
+    step-go c d τ o ea eb ec ed et eo =
+        eo ∙ ap (λ s. settle (tableOf g) ways k s stays) (et ∙ ap₂ (λ w z. setRow σ₂ k (with (nodeOf g k) w y z)) ec ed)
         ∙ sym (bind-done (vis σ (wordOf g k 2)) (σ₁, x) _ (at (wordOf g k 2) ea)
         ∙ bind-done (vis σ₁ (wordOf g k 3)) (σ₂, y) _ (at-2 (wordOf g k 3) eb))
 

@@ -20,6 +20,7 @@ use Rattle.optimize.specs.declared.fold.Rule.{Rule}
 use Rattle.optimize.specs.declared.fold.Single.{Single}
 use Rattle.optimize.specs.declared.smt_solver.Asked.{Asked}
 use Rattle.optimize.specs.declared.form.Form.{Form}
+use Rattle.optimize.specs.declared.form.Pair.{Pair}
 use Rattle.optimize.specs.declared.form.Choice.{Choice}
 use Rattle.optimize.specs.Bounds.{countOf}
 use Rattle.rules.specs.Sections.{wordOf}
@@ -62,15 +63,15 @@ thenAsk count q x y f o = o >>= λ p. thenAskAt count q x y f (p .1) (p .0)
 -- ---- what a visit does with a node, by its kind and its word b
 unfoldable pub formOf : Kind → ℕ → Form
 formOf Const b = Form.Constant
-formOf Read b = Form.Read
+formOf Read b = Form.Two Pair.Reads
 formOf Write b = Form.Three
-formOf (Word op) b = Form.Two (Rule.Word (operatorOf op))
-formOf Ult b = Form.Two Rule.Ult
+formOf (Word op) b = Form.Two (Pair.Folds (Rule.Word (operatorOf op)))
+formOf Ult b = Form.Two (Pair.Folds Rule.Ult)
 formOf Ext b = Form.One Single.Ext
 formOf Ite b = Form.Choice
-formOf Eq b = Form.Two Rule.Eq
-formOf And b = Form.Two Rule.And
-formOf Or b = Form.Two Rule.Or
+formOf Eq b = Form.Two (Pair.Folds Rule.Eq)
+formOf And b = Form.Two (Pair.Folds Rule.And)
+formOf Or b = Form.Two (Pair.Folds Rule.Or)
 formOf Not b = Form.One Single.Not
 formOf State b = cond (eqb b 1) (Form.One Single.Stays) Form.Free
 formOf Next b = Form.Step
@@ -95,12 +96,16 @@ module _ (g : List ℕ) (ways : Ways) where
   afterOne rule σ k x = settle (tableOf g) ways k σ (foldOne rule (countOf g) (wordOf g k 1) (constOf (σ .rows) x))
 
   -- after the two operands of a node that folds were visited and put into its row, and of a Read
-  abbrev pub afterTwo : Rule → St → ℕ → ℕ → ℕ → Out (St × ℕ)
-  afterTwo rule σ k x y =
+  abbrev pub afterRule : Rule → St → ℕ → ℕ → ℕ → Out (St × ℕ)
+  afterRule rule σ k x y =
       finish (tableOf g) ways k σ (foldTwo (ways .reading) rule (countOf g) (wordOf g k 1) x y (constOf (σ .rows) x) (constOf (σ .rows) y)) (bitOf k (asksBit rule (wordOf g k 1)))
 
   abbrev pub afterRead : St → ℕ → ℕ → ℕ → Out (St × ℕ)
   afterRead σ k x y = forward (tableOf g) ways k σ x (constOf (σ .rows) y)
+
+  unfoldable pub afterTwo : Pair → St → ℕ → ℕ → ℕ → Out (St × ℕ)
+  afterTwo (Pair.Folds rule) σ k x y = afterRule rule σ k x y
+  afterTwo Pair.Reads σ k x y = afterRead σ k x y
 
   -- after all three operands of an Ite
   abbrev pub afterIte : St → ℕ → ℕ → ℕ → ℕ → Out (St × ℕ)
@@ -133,11 +138,8 @@ module _ (g : List ℕ) (ways : Ways) where
       (σ₂, y) ← vis σ₁ (wordOf g k 3)
       after (setRow σ₂ k (with (nodeOf g k) x y (wordOf g k 4))) k x y
 
-    abbrev pub twoOf : Rule → St → ℕ → Out (St × ℕ)
-    twoOf rule σ k = twoThen (afterTwo rule) σ k
-
-    abbrev pub readOf : St → ℕ → Out (St × ℕ)
-    readOf σ k = twoThen afterRead σ k
+    abbrev pub twoOf : Pair → St → ℕ → Out (St × ℕ)
+    twoOf pair σ k = twoThen (afterTwo pair) σ k
 
     abbrev pub threeOf : St → ℕ → Out (St × ℕ)
     threeOf σ k = do
@@ -174,23 +176,18 @@ module _ (g : List ℕ) (ways : Ways) where
       chosenOf (branch (constOf (σ₁ .rows) x)) x σ₁ k
 
     -- a Next's first word is never rewritten
-    abbrev pub valueOf : St → ℕ → Out (St × ℕ)
-    valueOf σ k = do
-      (σ₁, y) ← vis σ (wordOf g k 3)
-      settle (tableOf g) ways k (setRow σ₁ k (with (nodeOf g k) (wordOf g k 2) y (wordOf g k 4))) stays
-
     abbrev pub stepOf : St → ℕ → Out (St × ℕ)
     stepOf σ k = do
       (σ₁, state) ← vis σ (wordOf g k 2)
-      valueOf σ₁ k
+      (σ₂, y) ← vis σ₁ (wordOf g k 3)
+      settle (tableOf g) ways k (setRow σ₂ k (with (nodeOf g k) (wordOf g k 2) y (wordOf g k 4))) stays
 
     unfoldable pub byForm : Form → St → ℕ → Out (St × ℕ)
     byForm Form.Constant σ k = constOut σ k
     byForm Form.Given σ k = settle (tableOf g) ways k σ stays
     byForm Form.Free σ k = takeOf σ k
     byForm (Form.One rule) σ k = oneOf rule σ k
-    byForm (Form.Two rule) σ k = twoOf rule σ k
-    byForm Form.Read σ k = readOf σ k
+    byForm (Form.Two pair) σ k = twoOf pair σ k
     byForm Form.Three σ k = threeOf σ k
     byForm Form.Choice σ k = iteOf σ k
     byForm Form.Step σ k = stepOf σ k
@@ -201,8 +198,7 @@ Before Form.Constant g k = Unit
 Before Form.Given g k = Unit
 Before Form.Free g k = Unit
 Before (Form.One rule) g k = wordOf g k 2 < k
-Before (Form.Two rule) g k = (wordOf g k 2 < k) × (wordOf g k 3 < k)
-Before Form.Read g k = (wordOf g k 2 < k) × (wordOf g k 3 < k)
+Before (Form.Two pair) g k = (wordOf g k 2 < k) × (wordOf g k 3 < k)
 Before Form.Three g k = (wordOf g k 2 < k) × (wordOf g k 3 < k) × (wordOf g k 4 < k)
 Before Form.Choice g k = (wordOf g k 2 < k) × (wordOf g k 3 < k) × (wordOf g k 4 < k)
 Before Form.Step g k = (wordOf g k 2 < k) × (wordOf g k 3 < k)

@@ -16,15 +16,20 @@ ghost use Rattle.tables.specs.NodeAnswers.{kindIs};
 ghost use Rattle.optimize.specs.View.{constantIs};
 ghost use Rattle.optimize.specs.Process.{choiceIs, formOf, formAt};
 
-// What a visit does with a node: it is a constant, an input, a state without init, or has one or two operands and the rule by which it folds,
-// the memory and address of a Read, the three operands of a Write, the condition and branches of an Ite, or the state and the next value of a Next.
+// What a node of two operands does with them: it folds by its rule, or reads a memory at an address.
+pub(crate) enum Pair {
+    Folds(Rule),
+    Reads,
+}
+
+// What a visit does with a node: it is a constant, an input, a state without init, or has one operand or two and what it does with them,
+// the three operands of a Write, the condition and branches of an Ite, or the state and the next value of a Next.
 pub(crate) enum Form {
     Constant,
     Given,
     Free,
     One(Single),
-    Two(Rule),
-    Read,
+    Two(Pair),
     Three,
     Choice,
     Step,
@@ -35,22 +40,22 @@ fn form_of(kind: NodeKind, b: u64) -> Form
 {
     match kind {
         NodeKind::Const => Form::Constant,
-        NodeKind::Read => Form::Read,
+        NodeKind::Read => Form::Two(Pair::Reads),
         NodeKind::Write => Form::Three,
-        NodeKind::Add => Form::Two(Rule::Word(Operator::Add)),
-        NodeKind::Sub => Form::Two(Rule::Word(Operator::Sub)),
-        NodeKind::Mul => Form::Two(Rule::Word(Operator::Mul)),
-        NodeKind::Divu => Form::Two(Rule::Word(Operator::Divu)),
-        NodeKind::Div => Form::Two(Rule::Word(Operator::Div)),
-        NodeKind::Rem => Form::Two(Rule::Word(Operator::Rem)),
-        NodeKind::Sll => Form::Two(Rule::Word(Operator::Sll)),
-        NodeKind::Srl => Form::Two(Rule::Word(Operator::Srl)),
-        NodeKind::Ult => Form::Two(Rule::Ult),
+        NodeKind::Add => Form::Two(Pair::Folds(Rule::Word(Operator::Add))),
+        NodeKind::Sub => Form::Two(Pair::Folds(Rule::Word(Operator::Sub))),
+        NodeKind::Mul => Form::Two(Pair::Folds(Rule::Word(Operator::Mul))),
+        NodeKind::Divu => Form::Two(Pair::Folds(Rule::Word(Operator::Divu))),
+        NodeKind::Div => Form::Two(Pair::Folds(Rule::Word(Operator::Div))),
+        NodeKind::Rem => Form::Two(Pair::Folds(Rule::Word(Operator::Rem))),
+        NodeKind::Sll => Form::Two(Pair::Folds(Rule::Word(Operator::Sll))),
+        NodeKind::Srl => Form::Two(Pair::Folds(Rule::Word(Operator::Srl))),
+        NodeKind::Ult => Form::Two(Pair::Folds(Rule::Ult)),
         NodeKind::Ext => Form::One(Single::Ext),
         NodeKind::Ite => Form::Choice,
-        NodeKind::Eq => Form::Two(Rule::Eq),
-        NodeKind::And => Form::Two(Rule::And),
-        NodeKind::Or => Form::Two(Rule::Or),
+        NodeKind::Eq => Form::Two(Pair::Folds(Rule::Eq)),
+        NodeKind::And => Form::Two(Pair::Folds(Rule::And)),
+        NodeKind::Or => Form::Two(Pair::Folds(Rule::Or)),
         NodeKind::Not => Form::One(Single::Not),
         NodeKind::State => {
             if b == 1 {

@@ -20,6 +20,7 @@ use crate::fold::asks_bit;
 use crate::fold::fold_const;
 use crate::fold::fold_one;
 use crate::fold::fold_two;
+use crate::form::Pair;
 use crate::memory::Found;
 use crate::memory::find_in_memory;
 use crate::smt_solver::is_stays;
@@ -34,7 +35,7 @@ ghost use Rattle.rules.specs.Visit.{settle, finish};
 ghost use Rattle.optimize.specs.Bounds.{countOf, CountedAt, HasBoth};
 ghost use Rattle.optimize.specs.View.{foldIs, tableOf};
 ghost use Rattle.optimize.specs.Folding.{Falls};
-ghost use Rattle.optimize.specs.Process.{bitOf, afterOne, afterTwo, afterRead, afterIte, constOut};
+ghost use Rattle.optimize.specs.Process.{bitOf, afterOne, afterRule, afterRead, afterTwo, afterIte, constOut};
 ghost use Rattle.optimize.specs.Laid.{Room};
 ghost use Rattle.optimize.specs.Counters.{walkIn, Going};
 ghost use Rattle.optimize.specs.Clauses.{Settles, SettlesBy, SettlesSolved};
@@ -166,7 +167,7 @@ pub(crate) fn after_one(
 }
 
 // Forwards a Read of the memory x, where its address y is a constant: what the write holds that is found replaces it.
-pub(crate) fn read(
+fn read(
     given: &[u64],
     call: &CallWords,
     result: &mut [u64],
@@ -200,7 +201,7 @@ pub(crate) fn read(
 }
 
 // Folds a node whose two operands were visited, by its rule.
-pub(crate) fn after_two(
+fn after_rule(
     given: &[u64],
     call: &CallWords,
     result: &mut [u64],
@@ -213,7 +214,7 @@ pub(crate) fn after_two(
 ) -> usize
     requires { ⌜ Room (now given) (now result) (now scratch) (walkIn (now counters)) node ⌝ }
     requires { ⌜ Going (now counters) ⌝ }
-    ensures { λ r. ⌜ SettlesBy given result scratch counters r call (λ g ways σ. afterTwo g ways rule σ node x y) ⌝ }
+    ensures { λ r. ⌜ SettlesBy given result scratch counters r call (λ g ways σ. afterRule g ways rule σ node x y) ⌝ }
 {
     let how = reading_in(call);
     let n = node_count(given);
@@ -223,6 +224,29 @@ pub(crate) fn after_two(
     let fold = fold_two(how, rule, n, sort, x, y, left, right);
     let bit = asks_bit(rule, sort);
     finish(given, call, result, scratch, counters, node, bit, fold)
+}
+
+// What a node does with its two operands, which were visited: it folds, or is a Read and forwarded.
+pub(crate) fn after_two(
+    given: &[u64],
+    call: &CallWords,
+    result: &mut [u64],
+    scratch: &mut [u64],
+    counters: &mut Counters,
+    node: usize,
+    pair: Pair,
+    x: usize,
+    y: usize,
+) -> usize
+    requires { ⌜ Room (now given) (now result) (now scratch) (walkIn (now counters)) node ⌝ }
+    requires { ⌜ Going (now counters) ⌝ }
+    requires { ⌜ Falls (countOf (now given)) (getD (now counters) 0 0) (now result) ⌝ }
+    ensures { λ r. ⌜ SettlesBy given result scratch counters r call (λ g ways σ. afterTwo g ways pair σ node x y) ⌝ }
+{
+    match pair {
+        Pair::Folds(rule) => after_rule(given, call, result, scratch, counters, node, rule, x, y),
+        Pair::Reads => read(given, call, result, scratch, counters, node, x, y),
+    }
 }
 
 // Asks about an Ite whose condition and branches were visited, under minimise.

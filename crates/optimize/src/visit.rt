@@ -13,17 +13,16 @@ use crate::counters::is_refused;
 use crate::counters::put_walk;
 use crate::counters::visited_in;
 use crate::fold::Folded;
-use crate::fold::Rule;
 use crate::fold::Single;
 use crate::form::Choice;
 use crate::form::Form;
+use crate::form::Pair;
 use crate::form::choice_of;
 use crate::form::form_at;
 use crate::input::take_input;
 use crate::settle::after_ite;
 use crate::settle::after_one;
 use crate::settle::after_two;
-use crate::settle::read;
 use crate::settle::settle;
 use crate::settle::settle_const;
 use crate::walk::Visited;
@@ -35,7 +34,7 @@ ghost use Rattle.rules.specs.Walk.{fresh};
 ghost use Rattle.optimize.specs.Bounds.{countOf};
 ghost use Rattle.rules.specs.Sections.{wordOf};
 ghost use Rattle.optimize.specs.View.{markOf};
-ghost use Rattle.optimize.specs.Process.{formAt, processOf, oneOf, twoOf, readOf, threeOf, leftOf, rightOf, bothOf, iteOf, valueOf, stepOf};
+ghost use Rattle.optimize.specs.Process.{formAt, processOf, oneOf, twoOf, threeOf, leftOf, rightOf, bothOf, iteOf, stepOf};
 ghost use Rattle.optimize.specs.CallWords.{LaidBy};
 ghost use Rattle.optimize.specs.Counters.{walkIn, Going};
 ghost use Rattle.optimize.specs.declared.form.Form.{Form};
@@ -96,8 +95,7 @@ fn process(
             node,
         ),
         Form::One(rule) => process_one(given, result, scratch, dumps, call, counters, node, rule),
-        Form::Two(rule) => process_two(given, result, scratch, dumps, call, counters, node, rule),
-        Form::Read => process_read(given, result, scratch, dumps, call, counters, node),
+        Form::Two(pair) => process_two(given, result, scratch, dumps, call, counters, node, pair),
         Form::Three => process_three(given, result, scratch, dumps, call, counters, node),
         Form::Choice => process_ite(given, result, scratch, dumps, call, counters, node),
         Form::Step => process_next(given, result, scratch, dumps, call, counters, node),
@@ -145,7 +143,7 @@ fn process_one(
     after_one(given, result, scratch, counters, node, rule, x)
 }
 
-// A node of two operands that folds: the operators on words, Ult, Eq, And, Or.
+// A node of two operands: the operators on words, Ult, Eq, And, Or, and a Read.
 fn process_two(
     given: &[u64],
     result: &mut [u64],
@@ -154,15 +152,16 @@ fn process_two(
     call: &CallWords,
     counters: &mut Counters,
     node: usize,
-    rule: Rule,
+    pair: Pair,
 ) -> usize
     requires { ⌜ LaidBy (now given) (now dumps) (now call) (now result) (now scratch) (walkIn (now counters)) ⌝ }
     requires { ⌜ node < countOf (now given) ⌝ }
     requires { ⌜ markOf (countOf (now given)) (now scratch) node ≡ fresh ⌝ }
     requires { ⌜ wordOf (now given) node 2 < node ⌝ }
     requires { ⌜ wordOf (now given) node 3 < node ⌝ }
+    requires { ⌜ Form.Two pair ≡ formAt (now given) node ⌝ }
     requires { ⌜ Going (now counters) ⌝ }
-    ensures { λ r. ⌜ Walks given dumps call result scratch counters r node (λ g ways vis σ. twoOf g ways vis rule σ node) ⌝ }
+    ensures { λ r. ⌜ Walks given dumps call result scratch counters r node (λ g ways vis σ. twoOf g ways vis pair σ node) ⌝ }
 {
     let x = visit(
         given,
@@ -189,54 +188,7 @@ fn process_two(
         return y;
     }
     put_row(given, result, node, x, y, operand(given, node, Row::C));
-    after_two(given, call, result, scratch, counters, node, rule, x, y)
-}
-
-// A Read.
-fn process_read(
-    given: &[u64],
-    result: &mut [u64],
-    scratch: &mut [u64],
-    dumps: &Dumps,
-    call: &CallWords,
-    counters: &mut Counters,
-    node: usize,
-) -> usize
-    requires { ⌜ LaidBy (now given) (now dumps) (now call) (now result) (now scratch) (walkIn (now counters)) ⌝ }
-    requires { ⌜ node < countOf (now given) ⌝ }
-    requires { ⌜ markOf (countOf (now given)) (now scratch) node ≡ fresh ⌝ }
-    requires { ⌜ wordOf (now given) node 2 < node ⌝ }
-    requires { ⌜ wordOf (now given) node 3 < node ⌝ }
-    requires { ⌜ Form.Read ≡ formAt (now given) node ⌝ }
-    requires { ⌜ Going (now counters) ⌝ }
-    ensures { λ r. ⌜ Walks given dumps call result scratch counters r node (λ g ways vis σ. readOf g ways vis σ node) ⌝ }
-{
-    let x = visit(
-        given,
-        result,
-        scratch,
-        dumps,
-        call,
-        counters,
-        operand(given, node, Row::A),
-    );
-    if is_refused(counters) {
-        return x;
-    }
-    let y = visit(
-        given,
-        result,
-        scratch,
-        dumps,
-        call,
-        counters,
-        operand(given, node, Row::B),
-    );
-    if is_refused(counters) {
-        return y;
-    }
-    put_row(given, result, node, x, y, operand(given, node, Row::C));
-    read(given, call, result, scratch, counters, node, x, y)
+    after_two(given, call, result, scratch, counters, node, pair, x, y)
 }
 
 // A Write.
@@ -452,7 +404,8 @@ fn process_both(
     after_ite(given, call, result, scratch, counters, node, x, y, z)
 }
 
-// A Next: its state first, for which no other node stands where the Next is kept (rules/specs/KeptState.antt), then the next value.
+// A Next: its state first, for which no other node stands where the Next is kept (rules/specs/KeptState.antt), then the next value. Its first word
+// is never rewritten.
 fn process_next(
     given: &[u64],
     result: &mut [u64],
@@ -475,26 +428,6 @@ fn process_next(
     if is_refused(counters) {
         return x;
     }
-    process_value(given, result, scratch, dumps, call, counters, node)
-}
-
-// The next value of a Next, whose first word is never rewritten.
-fn process_value(
-    given: &[u64],
-    result: &mut [u64],
-    scratch: &mut [u64],
-    dumps: &Dumps,
-    call: &CallWords,
-    counters: &mut Counters,
-    node: usize,
-) -> usize
-    requires { ⌜ LaidBy (now given) (now dumps) (now call) (now result) (now scratch) (walkIn (now counters)) ⌝ }
-    requires { ⌜ node < countOf (now given) ⌝ }
-    requires { ⌜ markOf (countOf (now given)) (now scratch) node ≡ fresh ⌝ }
-    requires { ⌜ wordOf (now given) node 3 < node ⌝ }
-    requires { ⌜ Going (now counters) ⌝ }
-    ensures { λ r. ⌜ Walks given dumps call result scratch counters r node (λ g ways vis σ. valueOf g ways vis σ node) ⌝ }
-{
     let y = visit(
         given,
         result,

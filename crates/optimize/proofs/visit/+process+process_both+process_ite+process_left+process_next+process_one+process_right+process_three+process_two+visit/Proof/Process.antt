@@ -18,17 +18,16 @@ use Rattle.optimize.proofs.call_words.inputs_in.Reads as inputs-in-read
 use Rattle.optimize.proofs.input.take_input.Reads as take-input-reads
 use Rattle.optimize.proofs.visit.process_one.Reads as process-one
 use Rattle.optimize.proofs.visit.process_two.Reads as process-two
-use Rattle.optimize.proofs.visit.process_read.Reads as process-read
 use Rattle.optimize.proofs.visit.process_three.Reads as process-three
 use Rattle.optimize.proofs.visit.process_ite.Reads as process-ite
 use Rattle.optimize.proofs.visit.process_next.Reads as process-next
 use Rattle.optimize.proofs.visit.process.Reads as process
-use Rattle.optimize.proofs.visit.+process+process_both+process_ite+process_left+process_next+process_one+process_read+process_right+process_three+process_two+process_value+visit.Lts-process as lts
-use Rattle.optimize.proofs.visit.+process+process_both+process_ite+process_left+process_next+process_one+process_read+process_right+process_three+process_two+process_value+visit.Proof.Measures.{process-at, process-one-below, process-two-below, process-read-below, process-three-below, process-ite-below, process-next-below}
+use Rattle.optimize.proofs.visit.+process+process_both+process_ite+process_left+process_next+process_one+process_right+process_three+process_two+visit.Lts-process as lts
+use Rattle.optimize.proofs.visit.+process+process_both+process_ite+process_left+process_next+process_one+process_right+process_three+process_two+visit.Proof.Measures.{process-at, process-one-below, process-two-below, process-three-below, process-ite-below, process-next-below}
 
 module _ (t : ℕ) where
   abbrev claims : lts.Claims
-  claims = (form-at-reads.Asked, form-at-reads.Learnt, settle-const-reads.Asked, settle-const-reads.Learnt, settle-reads.Asked, settle-reads.Learnt, inputs-in-reads.Asked, inputs-in-reads.Learnt, take-input-reads.Asked, take-input-reads.Learnt, process-one-below t, process-one.Post, process-two-below t, process-two.Post, process-read-below t, process-read.Post, process-three-below t, process-three.Post, process-ite-below t, process-ite.Post, process-next-below t, process-next.Post)
+  claims = (form-at-reads.Asked, form-at-reads.Learnt, settle-const-reads.Asked, settle-const-reads.Learnt, settle-reads.Asked, settle-reads.Learnt, inputs-in-reads.Asked, inputs-in-reads.Learnt, take-input-reads.Asked, take-input-reads.Learnt, process-one-below t, process-one.Post, process-two-below t, process-two.Post, process-three-below t, process-three.Post, process-ite-below t, process-ite.Post, process-next-below t, process-next.Post)
 
   form-at-requires : lts.Need-form-at-requires claims (process-at t) process.Post
   form-at-requires c κs =
@@ -72,31 +71,32 @@ module _ (t : ℕ) where
       let start = at-form-at .before .before .before .before in
       (omega (arith, start .pre .0), ((start .pre .1 .0), ((start .pre .1 .1 .0), ((start .pre .1 .1 .1 .0), (before-is (start .args .given .now) (start .args .node) (start .pre .1 .0 .legal) (start .pre .1 .1 .0) _ (sym (at-rule .rule .given .1) ∙ at-form-at .form-at .ensures), start .pre .1 .1 .1 .1)))))
 
-  enum-known-rule-2 : lts.Need-enum-known-rule-2 claims (process-at t) process.Post
-  enum-known-rule-2 c = search needs
+  enum-known-pair : lts.Need-enum-known-pair claims (process-at t) process.Post
+  enum-known-pair c = search needs
 
   process-two-requires : lts.Need-process-two-requires claims (process-at t) process.Post
   process-two-requires c κs =
-      let at-rule2 = c .before .before .before .before in
-      let at-form-at = at-rule2 .before .before in
+      let at-pair = c .before .before .before .before in
+      let at-form-at = at-pair .before .before in
       let start = at-form-at .before .before .before .before in
-      let b = before-is (start .args .given .now) (start .args .node) (start .pre .1 .0 .legal) (start .pre .1 .1 .0) _ (sym (at-rule2 .rule2 .given .1) ∙ at-form-at .form-at .ensures) in (omega (arith, start .pre .0), ((start .pre .1 .0), ((start .pre .1 .1 .0), ((start .pre .1 .1 .1 .0), (b .0, (b .1, start .pre .1 .1 .1 .1))))))
+      let is = sym (at-pair .pair .given .1) ∙ at-form-at .form-at .ensures in
+      let b = before-is (start .args .given .now) (start .args .node) (start .pre .1 .0 .legal) (start .pre .1 .1 .0) _ is in (omega (arith, start .pre .0), ((start .pre .1 .0), ((start .pre .1 .1 .0), ((start .pre .1 .1 .1 .0), (b .0, (b .1, (is, start .pre .1 .1 .1 .1)))))))
 
   enum-told-4 : lts.Need-enum-told-4 claims (process-at t) process.Post
   enum-told-4 c = search needs
 
-  process-read-requires : lts.Need-process-read-requires claims (process-at t) process.Post
-  process-read-requires c κs =
+  process-three-requires : lts.Need-process-three-requires claims (process-at t) process.Post
+  process-three-requires c κs =
       let at-enum-told4 = c .before .before .before in
       let at-form-at = at-enum-told4 .before .before in
       let start = at-form-at .before .before .before .before in
-      let b = before-is (start .args .given .now) (start .args .node) (start .pre .1 .0 .legal) (start .pre .1 .1 .0) _ (sym (at-enum-told4 .enum-told4 .given .1) ∙ at-form-at .form-at .ensures) in (omega (arith, start .pre .0), ((start .pre .1 .0), ((start .pre .1 .1 .0), ((start .pre .1 .1 .1 .0), (b .0, (b .1, (sym (at-enum-told4 .enum-told4 .given .1) ∙ at-form-at .form-at .ensures, start .pre .1 .1 .1 .1)))))))
+      let b = before-is (start .args .given .now) (start .args .node) (start .pre .1 .0 .legal) (start .pre .1 .1 .0) _ (sym (at-enum-told4 .enum-told4 .given .1) ∙ at-form-at .form-at .ensures) in (omega (arith, start .pre .0), ((start .pre .1 .0), ((start .pre .1 .1 .0), ((start .pre .1 .1 .1 .0), (b .0, (b .1, (b .2, start .pre .1 .1 .1 .1)))))))
 
   enum-told-5 : lts.Need-enum-told-5 claims (process-at t) process.Post
   enum-told-5 c = search needs
 
-  process-three-requires : lts.Need-process-three-requires claims (process-at t) process.Post
-  process-three-requires c κs =
+  process-ite-requires : lts.Need-process-ite-requires claims (process-at t) process.Post
+  process-ite-requires c κs =
       let at-enum-told5 = c .before .before .before in
       let at-form-at = at-enum-told5 .before .before in
       let start = at-form-at .before .before .before .before in
@@ -105,22 +105,12 @@ module _ (t : ℕ) where
   enum-told-6 : lts.Need-enum-told-6 claims (process-at t) process.Post
   enum-told-6 c = search needs
 
-  process-ite-requires : lts.Need-process-ite-requires claims (process-at t) process.Post
-  process-ite-requires c κs =
+  process-next-requires : lts.Need-process-next-requires claims (process-at t) process.Post
+  process-next-requires c κs =
       let at-enum-told6 = c .before .before .before in
       let at-form-at = at-enum-told6 .before .before in
       let start = at-form-at .before .before .before .before in
-      let b = before-is (start .args .given .now) (start .args .node) (start .pre .1 .0 .legal) (start .pre .1 .1 .0) _ (sym (at-enum-told6 .enum-told6 .given .1) ∙ at-form-at .form-at .ensures) in (omega (arith, start .pre .0), ((start .pre .1 .0), ((start .pre .1 .1 .0), ((start .pre .1 .1 .1 .0), (b .0, (b .1, (b .2, start .pre .1 .1 .1 .1)))))))
-
-  enum-told-7 : lts.Need-enum-told-7 claims (process-at t) process.Post
-  enum-told-7 c = search needs
-
-  process-next-requires : lts.Need-process-next-requires claims (process-at t) process.Post
-  process-next-requires c κs =
-      let at-enum-told7 = c .before .before .before in
-      let at-form-at = at-enum-told7 .before .before in
-      let start = at-form-at .before .before .before .before in
-      let b = before-is (start .args .given .now) (start .args .node) (start .pre .1 .0 .legal) (start .pre .1 .1 .0) _ (sym (at-enum-told7 .enum-told7 .given .1) ∙ at-form-at .form-at .ensures) in (omega (arith, start .pre .0), ((start .pre .1 .0), ((start .pre .1 .1 .0), ((start .pre .1 .1 .1 .0), (b .0, (b .1, start .pre .1 .1 .1 .1))))))
+      let b = before-is (start .args .given .now) (start .args .node) (start .pre .1 .0 .legal) (start .pre .1 .1 .0) _ (sym (at-enum-told6 .enum-told6 .given .1) ∙ at-form-at .form-at .ensures) in (omega (arith, start .pre .0), ((start .pre .1 .0), ((start .pre .1 .1 .0), ((start .pre .1 .1 .1 .0), (b .0, (b .1, start .pre .1 .1 .1 .1))))))
 
   same-length : lts.Need-same-length claims (process-at t) process.Post
   same-length c =
@@ -237,106 +227,83 @@ module _ (t : ℕ) where
   unfolding byForm
   returns-5 c =
       let at-process-two = c .before .before .before .before in
-      let at-rule2 = at-process-two .before .before .before .before .before in
-      let at-form-at = at-rule2 .before .before in
+      let at-pair = at-process-two .before .before .before .before .before in
+      let at-form-at = at-pair .before .before in
       let start = at-form-at .before .before .before .before in
       let given = start .args .given .now in
       let call = start .args .call .now in
       let dumps = start .args .dumps .now in
       let ways = waysBy given dumps call in
-      λ h f l. let m = at-process-two .process-two .ensures h f l in (m .0, m .1 ∙ process-is given ways (visitOf given ways f) (view h given (inputsIn given call) (repliesIn given call) (start .args .result .now) (start .args .scratch .now) (walkIn (start .args .counters .now))) (start .args .node) _ (sym (at-rule2 .rule2 .given .1) ∙ at-form-at .form-at .ensures))
+      λ h f l. let m = at-process-two .process-two .ensures h f l in (m .0, m .1 ∙ process-is given ways (visitOf given ways f) (view h given (inputsIn given call) (repliesIn given call) (start .args .result .now) (start .args .scratch .now) (walkIn (start .args .counters .now))) (start .args .node) _ (sym (at-pair .pair .given .1) ∙ at-form-at .form-at .ensures))
 
   same-length-11 : lts.Need-same-length-11 claims (process-at t) process.Post
   same-length-11 c =
-      let at-process-read = c .before .before .before .before in
-      at-process-read .process-read .kept .1 .0
+      let at-process-three = c .before .before .before .before in
+      at-process-three .process-three .kept .1 .0
 
   same-length-12 : lts.Need-same-length-12 claims (process-at t) process.Post
   same-length-12 c =
-      let at-process-read = c .before .before .before .before in
-      at-process-read .process-read .kept .1 .1 .0
+      let at-process-three = c .before .before .before .before in
+      at-process-three .process-three .kept .1 .1 .0
 
   returns-6 : lts.Need-returns-6 claims (process-at t) process.Post
   unfolding byForm
   returns-6 c =
-      let at-process-read = c .before .before .before .before in
-      let at-enum-told4 = at-process-read .before .before .before .before in
+      let at-process-three = c .before .before .before .before in
+      let at-enum-told4 = at-process-three .before .before .before .before in
       let at-form-at = at-enum-told4 .before .before in
       let start = at-form-at .before .before .before .before in
       let given = start .args .given .now in
       let call = start .args .call .now in
       let dumps = start .args .dumps .now in
       let ways = waysBy given dumps call in
-      λ h f l. let m = at-process-read .process-read .ensures h f l in (m .0, m .1 ∙ process-is given ways (visitOf given ways f) (view h given (inputsIn given call) (repliesIn given call) (start .args .result .now) (start .args .scratch .now) (walkIn (start .args .counters .now))) (start .args .node) _ (sym (at-enum-told4 .enum-told4 .given .1) ∙ at-form-at .form-at .ensures))
+      λ h f l. let m = at-process-three .process-three .ensures h f l in (m .0, m .1 ∙ process-is given ways (visitOf given ways f) (view h given (inputsIn given call) (repliesIn given call) (start .args .result .now) (start .args .scratch .now) (walkIn (start .args .counters .now))) (start .args .node) _ (sym (at-enum-told4 .enum-told4 .given .1) ∙ at-form-at .form-at .ensures))
 
   same-length-13 : lts.Need-same-length-13 claims (process-at t) process.Post
   same-length-13 c =
-      let at-process-three = c .before .before .before .before in
-      at-process-three .process-three .kept .1 .0
+      let at-process-ite = c .before .before .before .before in
+      at-process-ite .process-ite .kept .1 .0
 
   same-length-14 : lts.Need-same-length-14 claims (process-at t) process.Post
   same-length-14 c =
-      let at-process-three = c .before .before .before .before in
-      at-process-three .process-three .kept .1 .1 .0
+      let at-process-ite = c .before .before .before .before in
+      at-process-ite .process-ite .kept .1 .1 .0
 
   returns-7 : lts.Need-returns-7 claims (process-at t) process.Post
   unfolding byForm
   returns-7 c =
-      let at-process-three = c .before .before .before .before in
-      let at-enum-told5 = at-process-three .before .before .before .before in
+      let at-process-ite = c .before .before .before .before in
+      let at-enum-told5 = at-process-ite .before .before .before .before in
       let at-form-at = at-enum-told5 .before .before in
       let start = at-form-at .before .before .before .before in
       let given = start .args .given .now in
       let call = start .args .call .now in
       let dumps = start .args .dumps .now in
       let ways = waysBy given dumps call in
-      λ h f l. let m = at-process-three .process-three .ensures h f l in (m .0, m .1 ∙ process-is given ways (visitOf given ways f) (view h given (inputsIn given call) (repliesIn given call) (start .args .result .now) (start .args .scratch .now) (walkIn (start .args .counters .now))) (start .args .node) _ (sym (at-enum-told5 .enum-told5 .given .1) ∙ at-form-at .form-at .ensures))
+      λ h f l. let m = at-process-ite .process-ite .ensures h f l in (m .0, m .1 ∙ process-is given ways (visitOf given ways f) (view h given (inputsIn given call) (repliesIn given call) (start .args .result .now) (start .args .scratch .now) (walkIn (start .args .counters .now))) (start .args .node) _ (sym (at-enum-told5 .enum-told5 .given .1) ∙ at-form-at .form-at .ensures))
 
   same-length-15 : lts.Need-same-length-15 claims (process-at t) process.Post
   same-length-15 c =
-      let at-process-ite = c .before .before .before .before in
-      at-process-ite .process-ite .kept .1 .0
+      let at-process-next = c .before .before .before .before in
+      at-process-next .process-next .kept .1 .0
 
   same-length-16 : lts.Need-same-length-16 claims (process-at t) process.Post
   same-length-16 c =
-      let at-process-ite = c .before .before .before .before in
-      at-process-ite .process-ite .kept .1 .1 .0
+      let at-process-next = c .before .before .before .before in
+      at-process-next .process-next .kept .1 .1 .0
 
   returns-8 : lts.Need-returns-8 claims (process-at t) process.Post
   unfolding byForm
   returns-8 c =
-      let at-process-ite = c .before .before .before .before in
-      let at-enum-told6 = at-process-ite .before .before .before .before in
+      let at-process-next = c .before .before .before .before in
+      let at-enum-told6 = at-process-next .before .before .before .before in
       let at-form-at = at-enum-told6 .before .before in
       let start = at-form-at .before .before .before .before in
       let given = start .args .given .now in
       let call = start .args .call .now in
       let dumps = start .args .dumps .now in
       let ways = waysBy given dumps call in
-      λ h f l. let m = at-process-ite .process-ite .ensures h f l in (m .0, m .1 ∙ process-is given ways (visitOf given ways f) (view h given (inputsIn given call) (repliesIn given call) (start .args .result .now) (start .args .scratch .now) (walkIn (start .args .counters .now))) (start .args .node) _ (sym (at-enum-told6 .enum-told6 .given .1) ∙ at-form-at .form-at .ensures))
-
-  same-length-17 : lts.Need-same-length-17 claims (process-at t) process.Post
-  same-length-17 c =
-      let at-process-next = c .before .before .before .before in
-      at-process-next .process-next .kept .1 .0
-
-  same-length-18 : lts.Need-same-length-18 claims (process-at t) process.Post
-  same-length-18 c =
-      let at-process-next = c .before .before .before .before in
-      at-process-next .process-next .kept .1 .1 .0
-
-  returns-9 : lts.Need-returns-9 claims (process-at t) process.Post
-  unfolding byForm
-  returns-9 c =
-      let at-process-next = c .before .before .before .before in
-      let at-enum-told7 = at-process-next .before .before .before .before in
-      let at-form-at = at-enum-told7 .before .before in
-      let start = at-form-at .before .before .before .before in
-      let given = start .args .given .now in
-      let call = start .args .call .now in
-      let dumps = start .args .dumps .now in
-      let ways = waysBy given dumps call in
-      λ h f l. let m = at-process-next .process-next .ensures h f l in (m .0, m .1 ∙ process-is given ways (visitOf given ways f) (view h given (inputsIn given call) (repliesIn given call) (start .args .result .now) (start .args .scratch .now) (walkIn (start .args .counters .now))) (start .args .node) _ (sym (at-enum-told7 .enum-told7 .given .1) ∙ at-form-at .form-at .ensures))
+      λ h f l. let m = at-process-next .process-next .ensures h f l in (m .0, m .1 ∙ process-is given ways (visitOf given ways f) (view h given (inputsIn given call) (repliesIn given call) (start .args .result .now) (start .args .scratch .now) (walkIn (start .args .counters .now))) (start .args .node) _ (sym (at-enum-told6 .enum-told6 .given .1) ∙ at-form-at .form-at .ensures))
 
   pub proved : {M : Type 1} → lts.Closed claims (process-at t) process.Post M
-  proved = lts.spec claims (process-at t) process.Post form-at-requires enum-told settle-const-requires enum-told-2 settle-requires enum-told-3 inputs-in-requires take-input-requires enum-known-rule process-one-requires enum-known-rule-2 process-two-requires enum-told-4 process-read-requires enum-told-5 process-three-requires enum-told-6 process-ite-requires enum-told-7 process-next-requires same-length same-length-2 returns same-length-3 same-length-4 returns-2 same-length-5 same-length-6 returns-3 same-length-7 same-length-8 returns-4 same-length-9 same-length-10 returns-5 same-length-11 same-length-12 returns-6 same-length-13 same-length-14 returns-7 same-length-15 same-length-16 returns-8 same-length-17 same-length-18 returns-9
+  proved = lts.spec claims (process-at t) process.Post form-at-requires enum-told settle-const-requires enum-told-2 settle-requires enum-told-3 inputs-in-requires take-input-requires enum-known-rule process-one-requires enum-known-pair process-two-requires enum-told-4 process-three-requires enum-told-5 process-ite-requires enum-told-6 process-next-requires same-length same-length-2 returns same-length-3 same-length-4 returns-2 same-length-5 same-length-6 returns-3 same-length-7 same-length-8 returns-4 same-length-9 same-length-10 returns-5 same-length-11 same-length-12 returns-6 same-length-13 same-length-14 returns-7 same-length-15 same-length-16 returns-8

@@ -1,4 +1,4 @@
--- `process_right`: the right branch replaces it.
+-- `process_left`: the left branch replaces it.
 -- Assumes nothing.
 use mathlib.Core.Path.{sym, _∙_}
 use Prim.Native.Nat.{ℕ}
@@ -6,49 +6,49 @@ use native.Mathlib.Omega.{arith}
 use borrow.Author.Needs.{needs}
 use Rattle.optimize.specs.Process.{visitOf}
 use Rattle.optimize.specs.View.{view}
-use Rattle.optimize.proofs.Walks.{came-done, right-stop, right-go}
+use Rattle.optimize.proofs.Walks.{came-done, left-stop, left-go}
 use Rattle.optimize.proofs.Keeps.{ready, ready-on, ready-room}
 use Rattle.optimize.proofs.buffers.operand.Reads as operand-reads
 use Rattle.optimize.proofs.visit.visit.Reads as visit
 use Rattle.optimize.proofs.buffers.put_row.Reads as put-row-reads
 use Rattle.optimize.proofs.settle.settle.Reads as settle-reads
-use Rattle.optimize.proofs.visit.process_right.Reads as process-right
-use Rattle.optimize.proofs.visit.+process+process_both+process_ite+process_left+process_next+process_one+process_read+process_right+process_three+process_two+process_value+visit.Lts-process_right as lts
+use Rattle.optimize.proofs.visit.process_left.Reads as process-left
+use Rattle.optimize.proofs.visit.+process+process_both+process_ite+process_left+process_next+process_one+process_right+process_three+process_two+visit.Lts-process_left as lts
 use Rattle.optimize.proofs.counters.is_refused.Reads as is-refused-reads
 use Rattle.optimize.specs.Counters.{walkIn}
 use Rattle.optimize.proofs.CounterLaws.{went, stopped}
 use Rattle.optimize.specs.CallWords.{inputsIn, repliesIn, waysBy}
 use Rattle.optimize.proofs.Keeps.{ready-kept}
-use Rattle.optimize.proofs.visit.+process+process_both+process_ite+process_left+process_next+process_one+process_read+process_right+process_three+process_two+process_value+visit.Proof.Measures.{process-right-at, visit-below}
+use Rattle.optimize.proofs.visit.+process+process_both+process_ite+process_left+process_next+process_one+process_right+process_three+process_two+visit.Proof.Measures.{process-left-at, visit-below}
 
 module _ (t : ℕ) where
   abbrev claims : lts.Claims
   claims = (operand-reads.Asked, operand-reads.Learnt, visit-below t, visit.Post, is-refused-reads.Asked, is-refused-reads.Learnt, put-row-reads.Asked, put-row-reads.Learnt, settle-reads.Asked, settle-reads.Learnt)
 
-  operand-requires : lts.Need-operand-requires claims (process-right-at t) process-right.Post
+  operand-requires : lts.Need-operand-requires claims (process-left-at t) process-left.Post
   operand-requires c κs =
       let start = c .before .before .before .before .before .before in
       omega (arith, (start .pre .1 .0) .whole, (start .pre .1 .1 .0))
 
-  visit-requires : lts.Need-visit-requires claims (process-right-at t) process-right.Post
+  visit-requires : lts.Need-visit-requires claims (process-left-at t) process-left.Post
   visit-requires c κs =
       let start = c .before .before .before .before .before .before .before in
       (omega (arith, start .pre .0, c .operand .ensures, (start .pre .1 .1 .1 .1 .0)), ((start .pre .1 .0), (omega (arith, c .operand .ensures, (start .pre .1 .1 .1 .1 .0), (start .pre .1 .1 .0)), (start .pre .1 .1 .1 .1 .1))))
 
-  is-refused-requires : lts.Need-is-refused-requires claims (process-right-at t) process-right.Post
+  is-refused-requires : lts.Need-is-refused-requires claims (process-left-at t) process-left.Post
   is-refused-requires c κs = search needs
 
-  same-length : lts.Need-same-length claims (process-right-at t) process-right.Post
+  same-length : lts.Need-same-length claims (process-left-at t) process-left.Post
   same-length c =
       let at-visit = c .before .before .before .before .before .before .before in
       at-visit .visit .kept .1 .0
 
-  same-length-2 : lts.Need-same-length-2 claims (process-right-at t) process-right.Post
+  same-length-2 : lts.Need-same-length-2 claims (process-left-at t) process-left.Post
   same-length-2 c =
       let at-visit = c .before .before .before .before .before .before .before in
       at-visit .visit .kept .1 .1 .0
 
-  returns : lts.Need-returns claims (process-right-at t) process-right.Post
+  returns : lts.Need-returns claims (process-left-at t) process-left.Post
   returns c =
       let at-visit = c .before .before .before .before .before .before .before in
       let at-operand = at-visit .before in
@@ -59,14 +59,14 @@ module _ (t : ℕ) where
       let inputs = inputsIn given call in
       let replies = repliesIn given call in
       let ways = waysBy given dumps call in
-      λ h f l. right-stop given inputs replies ways (visitOf given ways f) (start .args .node) (view h given inputs replies (start .args .result .now) (start .args .scratch .now) (walkIn (start .args .counters .now))) _ _ _ _ _ _ _ (at-visit .visit .ensures h f (omega (arith, at-operand .operand .ensures, (start .pre .1 .1 .1 .1 .0), l))) (stopped _ _ _ (c .before .is-refused .ensures) (c .if1 .taken)) (start .args .x) (at-operand .operand .ensures)
+      λ h f l. left-stop given inputs replies ways (visitOf given ways f) (start .args .node) (view h given inputs replies (start .args .result .now) (start .args .scratch .now) (walkIn (start .args .counters .now))) _ _ _ _ _ _ _ (at-visit .visit .ensures h f (omega (arith, at-operand .operand .ensures, (start .pre .1 .1 .1 .1 .0), l))) (stopped _ _ _ (c .before .is-refused .ensures) (c .if1 .taken)) (start .args .x) (at-operand .operand .ensures)
 
-  operand-requires-2 : lts.Need-operand-requires-2 claims (process-right-at t) process-right.Post
+  operand-requires-2 : lts.Need-operand-requires-2 claims (process-left-at t) process-left.Post
   operand-requires-2 c κs =
       let start = c .before .before .before .before .before .before .before .before .before .before .before .before .before .before .before .before in
       omega (arith, (start .pre .1 .0) .whole, (start .pre .1 .1 .0))
 
-  put-row-requires : lts.Need-put-row-requires claims (process-right-at t) process-right.Post
+  put-row-requires : lts.Need-put-row-requires claims (process-left-at t) process-left.Post
   put-row-requires c κs =
       let at-if1 = c .before .before in
       let at-is-refused = at-if1 .before in
@@ -75,7 +75,7 @@ module _ (t : ℕ) where
       let start = at-operand .before .before .before .before .before .before .before in
       (((start .pre .1 .1 .0), (start .pre .1 .0) .small), (omega (arith, (start .pre .1 .0) .room, at-visit .visit .kept .1 .0), ready-kept _ _ _ _ _ _ _ _ _ _ (ready-on _ _ _ _ _ _ _ _ _ _ _ _ _ _ _ _ (ready _ _ _ _ _ _ _ _ _ _ (start .pre .1 .0) (start .pre .1 .1 .0) (start .pre .1 .1 .1 .0)) (omega (arith, at-operand .operand .ensures, (start .pre .1 .1 .1 .1 .0))) (at-visit .visit .ensures) (went _ _ _ (at-is-refused .is-refused .ensures) (at-if1 .if1 .left)) (at-visit .visit .kept .1 .0) (at-visit .visit .kept .1 .1 .0))))
 
-  settle-requires : lts.Need-settle-requires claims (process-right-at t) process-right.Post
+  settle-requires : lts.Need-settle-requires claims (process-left-at t) process-left.Post
   settle-requires c κs =
       let at-put-row = c .before .before .before .before .before in
       let at-if1 = at-put-row .before .before .before in
@@ -85,20 +85,20 @@ module _ (t : ℕ) where
       let start = at-operand .before .before .before .before .before .before .before in
       let q = (ready-room _ _ _ _ _ _ _ _ _ _ (ready-on _ _ _ _ _ _ _ _ _ _ _ _ _ _ _ _ (ready _ _ _ _ _ _ _ _ _ _ (start .pre .1 .0) (start .pre .1 .1 .0) (start .pre .1 .1 .1 .0)) (omega (arith, at-operand .operand .ensures, (start .pre .1 .1 .1 .1 .0))) (at-visit .visit .ensures) (went _ _ _ (at-is-refused .is-refused .ensures) (at-if1 .if1 .left)) (at-visit .visit .kept .1 .0) (at-visit .visit .kept .1 .1 .0))) in ((omega (arith, q .whole), q .small, q .inside), ((omega (arith, q .room, at-put-row .put-row .kept .1 .0), omega (arith, q .asks)), (q .few, (sym (at-is-refused .is-refused .ensures) ∙ at-if1 .if1 .left))))
 
-  same-length-3 : lts.Need-same-length-3 claims (process-right-at t) process-right.Post
+  same-length-3 : lts.Need-same-length-3 claims (process-left-at t) process-left.Post
   same-length-3 c =
       let at-settle = c .before .before .before .before in
       let at-put-row = at-settle .before .before .before .before .before .before in
       let at-visit = at-put-row .before .before .before .before .before .before .before .before .before .before in
       at-settle .settle .kept .1 .0 ∙ at-put-row .put-row .kept .1 .0 ∙ at-visit .visit .kept .1 .0
 
-  same-length-4 : lts.Need-same-length-4 claims (process-right-at t) process-right.Post
+  same-length-4 : lts.Need-same-length-4 claims (process-left-at t) process-left.Post
   same-length-4 c =
       let at-settle = c .before .before .before .before in
       let at-visit = at-settle .before .before .before .before .before .before .before .before .before .before .before .before .before .before .before .before in
       at-settle .settle .kept .1 .1 .0 ∙ at-visit .visit .kept .1 .1 .0
 
-  returns-2 : lts.Need-returns-2 claims (process-right-at t) process-right.Post
+  returns-2 : lts.Need-returns-2 claims (process-left-at t) process-left.Post
   returns-2 c =
       let at-settle = c .before .before .before .before in
       let at-put-row = at-settle .before .before .before .before .before .before in
@@ -112,7 +112,7 @@ module _ (t : ℕ) where
       let call = start .args .call .now in
       let dumps = start .args .dumps .now in
       let ways = waysBy given dumps call in
-      λ h f l. let m = at-visit .visit .ensures h f (omega (arith, at-operand .operand .ensures, (start .pre .1 .1 .1 .1 .0), l)) in (m .0, right-go given ways (visitOf given ways f) (start .args .node) (view h given (inputsIn given call) (repliesIn given call) (start .args .result .now) (start .args .scratch .now) (walkIn (start .args .counters .now))) _ _ _ (came-done _ _ _ _ _ _ _ m _ _ (went _ _ _ (at-is-refused .is-refused .ensures) (at-if1 .if1 .left))) (start .args .x) _ _ _ (at-operand .operand .ensures) (at-operand2 .operand2 .ensures) (at-put-row .put-row .ensures (m .0) _ _ _ _) (at-settle .settle .ensures (m .0) _ _ _))
+      λ h f l. let m = at-visit .visit .ensures h f (omega (arith, at-operand .operand .ensures, (start .pre .1 .1 .1 .1 .0), l)) in (m .0, left-go given ways (visitOf given ways f) (start .args .node) (view h given (inputsIn given call) (repliesIn given call) (start .args .result .now) (start .args .scratch .now) (walkIn (start .args .counters .now))) _ _ _ (came-done _ _ _ _ _ _ _ m _ _ (went _ _ _ (at-is-refused .is-refused .ensures) (at-if1 .if1 .left))) (start .args .x) _ _ _ (at-operand .operand .ensures) (at-operand2 .operand2 .ensures) (at-put-row .put-row .ensures (m .0) _ _ _ _) (at-settle .settle .ensures (m .0) _ _ _))
 
-  pub proved : {M : Type 1} → lts.Closed claims (process-right-at t) process-right.Post M
-  proved = lts.spec claims (process-right-at t) process-right.Post operand-requires visit-requires is-refused-requires same-length same-length-2 returns operand-requires-2 put-row-requires settle-requires same-length-3 same-length-4 returns-2
+  pub proved : {M : Type 1} → lts.Closed claims (process-left-at t) process-left.Post M
+  proved = lts.spec claims (process-left-at t) process-left.Post operand-requires visit-requires is-refused-requires same-length same-length-2 returns operand-requires-2 put-row-requires settle-requires same-length-3 same-length-4 returns-2

@@ -12,11 +12,11 @@ use Rattle.optimize.proofs.visit.process.Reads as process
 use Rattle.optimize.proofs.buffers.node_count.Reads as node-count-reads
 use Rattle.optimize.proofs.buffers.number.Reads as number-reads
 use Rattle.optimize.proofs.visit.visit.Reads as visit
-use Rattle.optimize.proofs.visit.+process+process_both+process_ite+process_left+process_next+process_one+process_read+process_right+process_three+process_two+process_value+visit.Lts-visit as lts
+use Rattle.optimize.proofs.visit.+process+process_both+process_ite+process_left+process_next+process_one+process_right+process_three+process_two+visit.Lts-visit as lts
 use Rattle.optimize.specs.Counters.{walkIn}
 use Rattle.optimize.proofs.CounterLaws.{went, met}
 use Rattle.optimize.specs.CallWords.{inputsIn, repliesIn, waysBy}
-use Rattle.optimize.proofs.visit.+process+process_both+process_ite+process_left+process_next+process_one+process_read+process_right+process_three+process_two+process_value+visit.Proof.Measures.{visit-at, process-below}
+use Rattle.optimize.proofs.visit.+process+process_both+process_ite+process_left+process_next+process_one+process_right+process_three+process_two+visit.Proof.Measures.{visit-at, process-below}
 
 module _ (t : ℕ) where
   abbrev claims : lts.Claims

@@ -15,16 +15,12 @@ use Rattle.optimize.proofs.visit.process_next.Reads as process-next
 use Rattle.optimize.proofs.visit.process_next.Kinds as process-next-kinds
 use Rattle.optimize.proofs.visit.process_one.Reads as process-one
 use Rattle.optimize.proofs.visit.process_one.Kinds as process-one-kinds
-use Rattle.optimize.proofs.visit.process_read.Reads as process-read
-use Rattle.optimize.proofs.visit.process_read.Kinds as process-read-kinds
 use Rattle.optimize.proofs.visit.process_right.Reads as process-right
 use Rattle.optimize.proofs.visit.process_right.Kinds as process-right-kinds
 use Rattle.optimize.proofs.visit.process_three.Reads as process-three
 use Rattle.optimize.proofs.visit.process_three.Kinds as process-three-kinds
 use Rattle.optimize.proofs.visit.process_two.Reads as process-two
 use Rattle.optimize.proofs.visit.process_two.Kinds as process-two-kinds
-use Rattle.optimize.proofs.visit.process_value.Reads as process-value
-use Rattle.optimize.proofs.visit.process_value.Kinds as process-value-kinds
 use Rattle.optimize.proofs.visit.visit.Reads as visit
 use Rattle.optimize.proofs.visit.visit.Kinds as visit-kinds
 
@@ -82,15 +78,6 @@ process-one-at t = and 6 process-one-kinds.ps (is 6 process-one-kinds.ps μ-proc
 abbrev pub process-one-below : ℕ → In 6 process-one-kinds.ps
 process-one-below t = and 6 process-one-kinds.ps (falls 6 process-one-kinds.ps _<_ μ-process-one t) process-one.Pre
 
-abbrev pub μ-process-read : Measures 6 process-read-kinds.ps ℕ
-μ-process-read κs a = 8 * a .1 .1 .1 .1 .1 .1 .0 + 3
-
-abbrev pub process-read-at : ℕ → In 6 process-read-kinds.ps
-process-read-at t = and 6 process-read-kinds.ps (is 6 process-read-kinds.ps μ-process-read t) process-read.Pre
-
-abbrev pub process-read-below : ℕ → In 6 process-read-kinds.ps
-process-read-below t = and 6 process-read-kinds.ps (falls 6 process-read-kinds.ps _<_ μ-process-read t) process-read.Pre
-
 abbrev pub μ-process-right : Measures 6 process-right-kinds.ps ℕ
 μ-process-right κs a = 8 * a .1 .1 .1 .1 .1 .1 .0 + 3
 
@@ -117,15 +104,6 @@ process-two-at t = and 6 process-two-kinds.ps (is 6 process-two-kinds.ps μ-proc
 
 abbrev pub process-two-below : ℕ → In 6 process-two-kinds.ps
 process-two-below t = and 6 process-two-kinds.ps (falls 6 process-two-kinds.ps _<_ μ-process-two t) process-two.Pre
-
-abbrev pub μ-process-value : Measures 6 process-value-kinds.ps ℕ
-μ-process-value κs a = 8 * a .1 .1 .1 .1 .1 .1 .0 + 3
-
-abbrev pub process-value-at : ℕ → In 6 process-value-kinds.ps
-process-value-at t = and 6 process-value-kinds.ps (is 6 process-value-kinds.ps μ-process-value t) process-value.Pre
-
-abbrev pub process-value-below : ℕ → In 6 process-value-kinds.ps
-process-value-below t = and 6 process-value-kinds.ps (falls 6 process-value-kinds.ps _<_ μ-process-value t) process-value.Pre
 
 abbrev pub μ-visit : Measures 6 visit-kinds.ps ℕ
 μ-visit κs a = 8 * a .1 .1 .1 .1 .1 .1 .0 + 7
