@@ -13,28 +13,32 @@ LC_ALL=C
 export LC_ALL
 cd "$(dirname "$0")/.." || exit 1
 
-# A copy of the crates, with the libraries that were proved in another folder: rt takes them if nothing that they are made of has changed.
-prepare() { # FOLDER OTHER
-    rm -rf "$1/crates" "$1/target/rlib" "$1/target/stamp"
-    mkdir -p "$1/target/inc" "$1/target/rlib" "$1/target/stamp" && cp -R crates crates.txt "$1/" || return 1
-    for name in $below; do
-        [ -f "$2/target/stamp/$name" ] || continue
-        cp -R "$2/target/rlib/$name.rlib" "$1/target/rlib/" && cp "$2/target/stamp/$name" "$1/target/stamp/" || return 1
+# The libraries of the repository that a crate is built on, each after those that it is built on itself.
+under() { # CRATE
+    for name in $(sed -n "s/^$1://p" crates.txt); do
+        [ -d "crates/$name" ] || continue
+        (under "$name")
+        echo "$name"
     done
 }
 
-# Waits for the libraries below; status 1 if the run that proves them ends without them. A library has its stamp once it is whole.
-await_below() {
-    for name in $below; do
-        until [ -f "target/stamp/$name" ]; do
-            [ ! -f "$BESIDE" ] || [ -f "target/stamp/$name" ] || return 1
+# Brings a crate's libraries into a folder: rt takes them if nothing that they are made of has changed. They are those of target/, which another
+# run may be proving (BESIDE): a library has its stamp once it is whole. Status 1 if that run ends without one.
+bring() { # FOLDER CRATE
+    for library in $(under "$2"); do
+        [ ! -f "$1/target/stamp/$library" ] || continue
+        until [ -z "${BESIDE:-}" ] || [ -f "target/stamp/$library" ]; do
+            [ ! -f "$BESIDE" ] || [ -f "target/stamp/$library" ] || return 1
             sleep 1
         done
+        [ -f "target/stamp/$library" ] || continue
+        cp -R "target/rlib/$library.rlib" "$1/target/rlib/" && cp "target/stamp/$library" "$1/target/stamp/" || return 1
     done
 }
 
 # Proves a crate as it stands, and keeps its incremental folder as it is then.
 seed() { # FOLDER CRATE
+    bring "$1" "$2" || { echo "edits: what $2 is built on was not proved"; return 1; }
     began=$(date +%s)
     (cd "$1" && rt dev "$2") >"$work/$2.log" 2>&1
     status=$?
@@ -168,22 +172,31 @@ try() { # FOLDER CRATE EDIT
 # Both folders go through the same crates and edits; whichever comes to one first has taken it.
 take() { mkdir "$1.taken" 2>/dev/null; }
 
-seeds() { # FOLDER
-    for crate in $crates; do
-        if take "$work/told/$crate"; then seed "$1" "$crate"; else rm -rf "$1/target/inc/$crate"; fi
+# Tries the edits of a crate that are left, if it is proved as it stands. What is said of each is kept.
+try_edits() { # FOLDER CRATE
+    [ -f "$work/seed/$2.time" ] && bring "$1" "$2" || return 0
+    for edit in "crates/$2/edits"/*.edit; do
+        told=$work/told/$2/$(basename "$edit" .edit)
+        take "$told" || continue
+        [ -d "$1/target/inc/$2" ] || cp -Rp "$work/seed/$2" "$1/target/inc/$2"
+        try "$1" "$2" "$edit" >"$told" && mv "$told" "$told.refused"
     done
 }
 
-# Tries edits of the crates that are proved as they stand. What is said of each is kept.
-try_edits() { # FOLDER
+# Proves the crates that nobody has taken, each before its edits; then tries the edits that are left, once the other folder has proved its crates.
+work_in() { # FOLDER
     for crate in $crates; do
-        [ -f "$work/seed/$crate.time" ] || continue
-        [ -d "$1/target/inc/$crate" ] || cp -Rp "$work/seed/$crate" "$1/target/inc/$crate"
-        for edit in "crates/$crate/edits"/*.edit; do
-            told=$work/told/$crate/$(basename "$edit" .edit)
-            take "$told" || continue
-            try "$1" "$crate" "$edit" >"$told" && mv "$told" "$told.refused"
-        done
+        if take "$work/told/$crate"; then
+            seed "$1" "$crate"
+            touch "$work/told/$crate.seeded"
+        else
+            rm -rf "$1/target/inc/$crate"
+        fi
+        try_edits "$1" "$crate"
+    done
+    for crate in $crates; do
+        until [ -f "$work/told/$crate.seeded" ]; do sleep 1; done
+        try_edits "$1" "$crate"
     done
 }
 
@@ -198,15 +211,12 @@ else
 fi
 rm -rf "$work/told" "$work/seed"
 
-# The crates with edits, each after what it is built on, and all that they are built on.
-crates='' below=''
+# The crates with edits, each after what it is built on.
+crates=''
 for crate in $(sed -n 's/^\([a-z0-9_]*\):.*/\1/p' crates.txt); do
     [ -d "crates/$crate/edits" ] || continue
     mkdir -p "$work/told/$crate" || exit 1
     crates="$crates $crate"
-    for name in $(sed -n "s/^$crate://p" crates.txt); do
-        case " $below " in *" $name "*) ;; *) [ ! -d "crates/$name" ] || below="$below $name" ;; esac
-    done
 done
 [ -n "$crates" ] || give_up "no crate has edits"
 for folder in crates/*/edits; do
@@ -214,21 +224,21 @@ for folder in crates/*/edits; do
     [ -d "$work/told/${crate%/edits}" ] || give_up "$folder belongs to no crate of crates.txt"
 done
 
-# The libraries below are taken from target/, and proved here where they do not stand there.
-[ -z "${BESIDE:-}" ] || await_below || give_up "a library below was not proved beside this"
-prepare "$work/one" . || give_up "$work cannot be written"
-if [ -n "$below" ]; then
-    # shellcheck disable=SC2086
-    (cd "$work/one" && rt check $below) >"$work/below.log" 2>&1 || { tail -n 5 "$work/below.log"; give_up "a library below is not proved"; }
-fi
-prepare "$work/two" "$work/one" || give_up "$work cannot be written"
-
-# First the crates are proved as they stand, then their edits are tried, two at a time.
-for task in seeds try_edits; do
-    $task "$work/two" &
-    $task "$work/one"
-    wait
+# Two folders, each with a copy of the crates. Where no run proves them beside this, libraries that target/ lacks are proved here, once.
+for folder in "$work/one" "$work/two"; do
+    rm -rf "$folder/crates" "$folder/target/rlib" "$folder/target/stamp"
+    mkdir -p "$folder/target/inc" "$folder/target/rlib" "$folder/target/stamp" && cp -R crates crates.txt "$folder/" || give_up "$work cannot be written"
 done
+if [ -z "${BESIDE:-}" ]; then
+    below=$(for crate in $crates; do under "$crate"; done | sort -u)
+    # shellcheck disable=SC2086
+    rt check $below >"$work/below.log" 2>&1 || { tail -n 5 "$work/below.log"; give_up "a library below is not proved"; }
+fi
+
+# Two edits at a time.
+work_in "$work/two" &
+work_in "$work/one"
+wait
 
 refused=0 failed=0
 for crate in $crates; do

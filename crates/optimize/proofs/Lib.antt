@@ -9,6 +9,7 @@ pub mod Finishes
 pub mod Walks
 pub mod Forms
 pub mod Keeps
+pub mod Onward
 pub mod CounterLaws
 pub mod CallLaws
 pub mod BufferLaws

@@ -1,15 +1,16 @@
 -- `process_ite`: the condition decides which branches are visited.
 -- Assumes nothing.
 use Prim.Native.Nat.{ℕ}
-use mathlib.Core.Path.{ap, sym, _∙_}
+use mathlib.Core.Path.{ap, refl, sym, _∙_}
 use native.Mathlib.Omega.{arith}
 use borrow.Author.Needs.{needs}
 use Rattle.rules.specs.Visit.{left, right, undecided}
 use Rattle.optimize.specs.Process.{visitOf}
 use Rattle.optimize.specs.View.{view}
 use Rattle.optimize.specs.Process.{choiceIs, chosenOf}
-use Rattle.optimize.proofs.Walks.{came-done, ite-stop, ite-at}
-use Rattle.optimize.proofs.Keeps.{ready, ready-on}
+use Rattle.optimize.proofs.Walks.{ite-stop, ite-at}
+use Rattle.optimize.proofs.Keeps.{ready}
+use Rattle.optimize.proofs.Onward.{Onward, onward}
 use Rattle.optimize.proofs.buffers.operand.Reads as operand-reads
 use Rattle.optimize.proofs.visit.visit.Reads as visit
 use Rattle.optimize.proofs.buffers.get_constant.Reads as get-constant-reads
@@ -21,7 +22,7 @@ use Rattle.optimize.proofs.visit.process_ite.Reads as process-ite
 use Rattle.optimize.proofs.visit.+process+process_both+process_ite+process_left+process_next+process_one+process_right+process_three+process_two+visit.Lts-process_ite as lts
 use Rattle.optimize.proofs.counters.is_refused.Reads as is-refused-reads
 use Rattle.optimize.specs.Counters.{walkIn}
-use Rattle.optimize.proofs.CounterLaws.{went, stopped}
+use Rattle.optimize.proofs.CounterLaws.{stopped}
 use Rattle.optimize.specs.CallWords.{inputsIn, repliesIn, waysBy}
 use Rattle.optimize.proofs.visit.+process+process_both+process_ite+process_left+process_next+process_one+process_right+process_three+process_two+visit.Proof.Measures.{process-ite-at, visit-below, process-left-below, process-right-below, process-both-below}
 
@@ -65,6 +66,16 @@ module _ (t : ℕ) where
       let ways = waysBy given dumps call in
       λ h f l. ite-stop given inputs replies ways (visitOf given ways f) (start .args .node) (view h given inputs replies (start .args .result .now) (start .args .scratch .now) (walkIn (start .args .counters .now))) _ _ _ _ _ _ _ (at-visit .visit .ensures h f (omega (arith, at-operand .operand .ensures, (start .pre .1 .1 .1 .1 .0), l))) (stopped _ _ _ (c .before .is-refused .ensures) (c .if1 .taken)) (at-operand .operand .ensures)
 
+  first : (c : lts.Else1 claims (process-ite-at t) process-ite.Post)
+      → let at-is-refused = c .before in let at-visit = at-is-refused .before .before .before .before .before .before in let at-operand = at-visit .before in let start = at-operand .before .before .before .before .before .before .before in
+      Onward (start .args .given .now) (start .args .dumps .now) (start .args .call .now) (start .args .result .now) (start .args .scratch .now) (start .args .counters .now) (at-visit .visit .last .1 .0) (at-visit .visit .last .1 .1 .0) (at-visit .visit .last .1 .1 .1 .1 .1 .0) (start .args .node) 2 (at-visit .visit .result)
+  first c =
+      let at-is-refused = c .before in
+      let at-visit = at-is-refused .before .before .before .before .before .before in
+      let at-operand = at-visit .before in
+      let start = at-operand .before .before .before .before .before .before .before in
+      onward _ _ _ _ _ _ _ _ _ _ _ _ _ _ (ready _ _ _ _ _ _ _ _ _ _ (start .pre .1 .0) (start .pre .1 .1 .0) (start .pre .1 .1 .1 .0)) (start .pre .1 .1 .1 .1 .0) (at-operand .operand .ensures) (at-visit .visit .ensures) (at-is-refused .is-refused .ensures) (c .if1 .left) (at-visit .visit .kept .1 .0) (at-visit .visit .kept .1 .1 .0)
+
   element-copy-out-get-constant : lts.Need-element-copy-out-get-constant claims (process-ite-at t) process-ite.Post
   element-copy-out-get-constant c = search needs
 
@@ -75,7 +86,7 @@ module _ (t : ℕ) where
       let at-visit = at-is-refused .before .before .before .before .before .before in
       let at-operand = at-visit .before in
       let start = at-operand .before .before .before .before .before .before .before in
-      let k = (ready-on _ _ _ _ _ _ _ _ _ _ _ _ _ _ _ _ (ready _ _ _ _ _ _ _ _ _ _ (start .pre .1 .0) (start .pre .1 .1 .0) (start .pre .1 .1 .1 .0)) (omega (arith, at-operand .operand .ensures, (start .pre .1 .1 .1 .1 .0))) (at-visit .visit .ensures) (went _ _ _ (at-is-refused .is-refused .ensures) (at-if1 .if1 .left)) (at-visit .visit .kept .1 .0) (at-visit .visit .kept .1 .1 .0)) .laid in ((omega (arith, k .whole), k .small), (k .room, omega (arith, k .few)))
+      let k = (first at-if1 .ready) .laid in ((omega (arith, k .whole), k .small), (k .room, omega (arith, k .few)))
 
   choice-of-requires : lts.Need-choice-of-requires claims (process-ite-at t) process-ite.Post
   choice-of-requires c κs = search needs
@@ -90,7 +101,7 @@ module _ (t : ℕ) where
       let at-visit = at-is-refused .before .before .before .before .before .before in
       let at-operand = at-visit .before in
       let start = at-operand .before .before .before .before .before .before .before in
-      let r = (ready-on _ _ _ _ _ _ _ _ _ _ _ _ _ _ _ _ (ready _ _ _ _ _ _ _ _ _ _ (start .pre .1 .0) (start .pre .1 .1 .0) (start .pre .1 .1 .1 .0)) (omega (arith, at-operand .operand .ensures, (start .pre .1 .1 .1 .1 .0))) (at-visit .visit .ensures) (went _ _ _ (at-is-refused .is-refused .ensures) (at-if1 .if1 .left)) (at-visit .visit .kept .1 .0) (at-visit .visit .kept .1 .1 .0)) in (omega (arith, start .pre .0), (r .laid, ((start .pre .1 .1 .0), (r .fresh, ((start .pre .1 .1 .1 .1 .1 .0), (sym (at-is-refused .is-refused .ensures) ∙ at-if1 .if1 .left))))))
+      let r = (first at-if1 .ready) in (omega (arith, start .pre .0), (r .laid, ((start .pre .1 .1 .0), (r .fresh, ((start .pre .1 .1 .1 .1 .1 .0), (first at-if1 .going))))))
 
   enum-told-2 : lts.Need-enum-told-2 claims (process-ite-at t) process-ite.Post
   enum-told-2 c = search needs
@@ -102,7 +113,7 @@ module _ (t : ℕ) where
       let at-visit = at-is-refused .before .before .before .before .before .before in
       let at-operand = at-visit .before in
       let start = at-operand .before .before .before .before .before .before .before in
-      let r = (ready-on _ _ _ _ _ _ _ _ _ _ _ _ _ _ _ _ (ready _ _ _ _ _ _ _ _ _ _ (start .pre .1 .0) (start .pre .1 .1 .0) (start .pre .1 .1 .1 .0)) (omega (arith, at-operand .operand .ensures, (start .pre .1 .1 .1 .1 .0))) (at-visit .visit .ensures) (went _ _ _ (at-is-refused .is-refused .ensures) (at-if1 .if1 .left)) (at-visit .visit .kept .1 .0) (at-visit .visit .kept .1 .1 .0)) in (omega (arith, start .pre .0), (r .laid, ((start .pre .1 .1 .0), (r .fresh, ((start .pre .1 .1 .1 .1 .1 .1 .0), (sym (at-is-refused .is-refused .ensures) ∙ at-if1 .if1 .left))))))
+      let r = (first at-if1 .ready) in (omega (arith, start .pre .0), (r .laid, ((start .pre .1 .1 .0), (r .fresh, ((start .pre .1 .1 .1 .1 .1 .1 .0), (first at-if1 .going))))))
 
   enum-told-3 : lts.Need-enum-told-3 claims (process-ite-at t) process-ite.Post
   enum-told-3 c = search needs
@@ -114,7 +125,7 @@ module _ (t : ℕ) where
       let at-visit = at-is-refused .before .before .before .before .before .before in
       let at-operand = at-visit .before in
       let start = at-operand .before .before .before .before .before .before .before in
-      let r = (ready-on _ _ _ _ _ _ _ _ _ _ _ _ _ _ _ _ (ready _ _ _ _ _ _ _ _ _ _ (start .pre .1 .0) (start .pre .1 .1 .0) (start .pre .1 .1 .1 .0)) (omega (arith, at-operand .operand .ensures, (start .pre .1 .1 .1 .1 .0))) (at-visit .visit .ensures) (went _ _ _ (at-is-refused .is-refused .ensures) (at-if1 .if1 .left)) (at-visit .visit .kept .1 .0) (at-visit .visit .kept .1 .1 .0)) in (omega (arith, start .pre .0), (r .laid, ((start .pre .1 .1 .0), (r .fresh, ((start .pre .1 .1 .1 .1 .1 .0), ((start .pre .1 .1 .1 .1 .1 .1 .0), (sym (at-is-refused .is-refused .ensures) ∙ at-if1 .if1 .left)))))))
+      let r = (first at-if1 .ready) in (omega (arith, start .pre .0), (r .laid, ((start .pre .1 .1 .0), (r .fresh, ((start .pre .1 .1 .1 .1 .1 .0), ((start .pre .1 .1 .1 .1 .1 .1 .0), (first at-if1 .going)))))))
 
   same-length-3 : lts.Need-same-length-3 claims (process-ite-at t) process-ite.Post
   same-length-3 c =
@@ -146,7 +157,7 @@ module _ (t : ℕ) where
       let inputs = inputsIn given call in
       let replies = repliesIn given call in
       let ways = waysBy given dumps call in
-      λ h f l. let m = at-visit .visit .ensures h f (omega (arith, at-operand .operand .ensures, (start .pre .1 .1 .1 .1 .0), l)) in ite-at given inputs replies ways (visitOf given ways f) (start .args .node) (view h given inputs replies (start .args .result .now) (start .args .scratch .now) (walkIn (start .args .counters .now))) _ _ _ _ _ _ _ _ _ (at-get-constant .get-constant .result) left (came-done _ _ _ _ _ _ _ m _ _ (went _ _ _ (at-is-refused .is-refused .ensures) (at-if1 .if1 .left))) (at-operand .operand .ensures) (at-get-constant .get-constant .ensures) (sym (at-choice-of .choice-of .ensures) ∙ ap choiceIs (at-enum-told .enum-told .given .1)) (at-process-left .process-left .ensures (m .0) f l)
+      λ h f l. let m = first at-if1 .came h f l in ite-at given inputs replies ways (visitOf given ways f) (start .args .node) (view h given inputs replies (start .args .result .now) (start .args .scratch .now) (walkIn (start .args .counters .now))) _ _ _ _ _ _ _ _ _ (at-get-constant .get-constant .result) left (m .1) refl (at-get-constant .get-constant .ensures) (sym (at-choice-of .choice-of .ensures) ∙ ap choiceIs (at-enum-told .enum-told .given .1)) (at-process-left .process-left .ensures (m .0) f l)
 
   same-length-5 : lts.Need-same-length-5 claims (process-ite-at t) process-ite.Post
   same-length-5 c =
@@ -178,7 +189,7 @@ module _ (t : ℕ) where
       let inputs = inputsIn given call in
       let replies = repliesIn given call in
       let ways = waysBy given dumps call in
-      λ h f l. let m = at-visit .visit .ensures h f (omega (arith, at-operand .operand .ensures, (start .pre .1 .1 .1 .1 .0), l)) in ite-at given inputs replies ways (visitOf given ways f) (start .args .node) (view h given inputs replies (start .args .result .now) (start .args .scratch .now) (walkIn (start .args .counters .now))) _ _ _ _ _ _ _ _ _ (at-get-constant .get-constant .result) right (came-done _ _ _ _ _ _ _ m _ _ (went _ _ _ (at-is-refused .is-refused .ensures) (at-if1 .if1 .left))) (at-operand .operand .ensures) (at-get-constant .get-constant .ensures) (sym (at-choice-of .choice-of .ensures) ∙ ap choiceIs (at-enum-told2 .enum-told2 .given .1)) (at-process-right .process-right .ensures (m .0) f l)
+      λ h f l. let m = first at-if1 .came h f l in ite-at given inputs replies ways (visitOf given ways f) (start .args .node) (view h given inputs replies (start .args .result .now) (start .args .scratch .now) (walkIn (start .args .counters .now))) _ _ _ _ _ _ _ _ _ (at-get-constant .get-constant .result) right (m .1) refl (at-get-constant .get-constant .ensures) (sym (at-choice-of .choice-of .ensures) ∙ ap choiceIs (at-enum-told2 .enum-told2 .given .1)) (at-process-right .process-right .ensures (m .0) f l)
 
   same-length-7 : lts.Need-same-length-7 claims (process-ite-at t) process-ite.Post
   same-length-7 c =
@@ -210,7 +221,7 @@ module _ (t : ℕ) where
       let inputs = inputsIn given call in
       let replies = repliesIn given call in
       let ways = waysBy given dumps call in
-      λ h f l. let m = at-visit .visit .ensures h f (omega (arith, at-operand .operand .ensures, (start .pre .1 .1 .1 .1 .0), l)) in ite-at given inputs replies ways (visitOf given ways f) (start .args .node) (view h given inputs replies (start .args .result .now) (start .args .scratch .now) (walkIn (start .args .counters .now))) _ _ _ _ _ _ _ _ _ (at-get-constant .get-constant .result) undecided (came-done _ _ _ _ _ _ _ m _ _ (went _ _ _ (at-is-refused .is-refused .ensures) (at-if1 .if1 .left))) (at-operand .operand .ensures) (at-get-constant .get-constant .ensures) (sym (at-choice-of .choice-of .ensures) ∙ ap choiceIs (at-enum-told3 .enum-told3 .given .1)) (at-process-both .process-both .ensures (m .0) f l)
+      λ h f l. let m = first at-if1 .came h f l in ite-at given inputs replies ways (visitOf given ways f) (start .args .node) (view h given inputs replies (start .args .result .now) (start .args .scratch .now) (walkIn (start .args .counters .now))) _ _ _ _ _ _ _ _ _ (at-get-constant .get-constant .result) undecided (m .1) refl (at-get-constant .get-constant .ensures) (sym (at-choice-of .choice-of .ensures) ∙ ap choiceIs (at-enum-told3 .enum-told3 .given .1)) (at-process-both .process-both .ensures (m .0) f l)
 
   pub proved : {M : Type 1} → lts.Closed claims (process-ite-at t) process-ite.Post M
   proved = lts.spec claims (process-ite-at t) process-ite.Post operand-requires visit-requires is-refused-requires same-length same-length-2 returns element-copy-out-get-constant get-constant-requires choice-of-requires enum-told process-left-requires enum-told-2 process-right-requires enum-told-3 process-both-requires same-length-3 same-length-4 returns-2 same-length-5 same-length-6 returns-3 same-length-7 same-length-8 returns-4

@@ -1,13 +1,14 @@
 -- `process_next`: the state, then the next value, the row, and it stays. Either operand stands before the node.
 -- Assumes nothing.
-use mathlib.Core.Path.{sym, _∙_}
+use mathlib.Core.Path.{refl, _∙_}
 use Prim.Native.Nat.{ℕ}
 use native.Mathlib.Omega.{arith}
 use borrow.Author.Needs.{needs}
 use Rattle.optimize.specs.Process.{visitOf}
 use Rattle.optimize.specs.View.{view}
-use Rattle.optimize.proofs.Walks.{came-done, step-stop, step-stop-2, step-go}
-use Rattle.optimize.proofs.Keeps.{ready, ready-on, ready-room, ready-kept}
+use Rattle.optimize.proofs.Walks.{step-stop, step-stop-2, step-go}
+use Rattle.optimize.proofs.Keeps.{ready, ready-room, ready-kept}
+use Rattle.optimize.proofs.Onward.{Onward, onward}
 use Rattle.optimize.proofs.buffers.operand.Reads as operand-reads
 use Rattle.optimize.proofs.visit.visit.Reads as visit
 use Rattle.optimize.proofs.buffers.put_row.Reads as put-row-reads
@@ -16,7 +17,7 @@ use Rattle.optimize.proofs.visit.process_next.Reads as process-next
 use Rattle.optimize.proofs.visit.+process+process_both+process_ite+process_left+process_next+process_one+process_right+process_three+process_two+visit.Lts-process_next as lts
 use Rattle.optimize.proofs.counters.is_refused.Reads as is-refused-reads
 use Rattle.optimize.specs.Counters.{walkIn}
-use Rattle.optimize.proofs.CounterLaws.{went, stopped}
+use Rattle.optimize.proofs.CounterLaws.{stopped}
 use Rattle.optimize.specs.CallWords.{inputsIn, repliesIn, waysBy}
 use Rattle.optimize.proofs.visit.+process+process_both+process_ite+process_left+process_next+process_one+process_right+process_three+process_two+visit.Proof.Measures.{process-next-at, visit-below}
 
@@ -63,6 +64,16 @@ module _ (t : ℕ) where
       let ways = waysBy given dumps call in
       λ h f l. step-stop given inputs replies ways (visitOf given ways f) (start .args .node) (view h given inputs replies (start .args .result .now) (start .args .scratch .now) (walkIn (start .args .counters .now))) _ _ _ _ _ _ _ (at-visit .visit .ensures h f (omega (arith, at-operand .operand .ensures, operands .0, operands .1 .0, l))) (stopped _ _ _ (c .before .is-refused .ensures) (c .if1 .taken)) (at-operand .operand .ensures)
 
+  state : (c : lts.Else1 claims (process-next-at t) process-next.Post)
+      → let at-is-refused = c .before in let at-visit = at-is-refused .before .before .before .before .before .before in let at-operand = at-visit .before .before .before .before in let start = at-operand .before .before .before .before in
+      Onward (start .args .given .now) (start .args .dumps .now) (start .args .call .now) (start .args .result .now) (start .args .scratch .now) (start .args .counters .now) (at-visit .visit .last .1 .0) (at-visit .visit .last .1 .1 .0) (at-visit .visit .last .1 .1 .1 .1 .1 .0) (start .args .node) 2 (at-visit .visit .result)
+  state c =
+      let at-is-refused = c .before in
+      let at-visit = at-is-refused .before .before .before .before .before .before in
+      let at-operand = at-visit .before .before .before .before in
+      let start = at-operand .before .before .before .before in
+      onward _ _ _ _ _ _ _ _ _ _ _ _ _ _ (ready _ _ _ _ _ _ _ _ _ _ (start .pre .1 .0) (start .pre .1 .1 .0) (start .pre .1 .1 .1 .0)) (start .pre .1 .1 .1 .1 .0) (at-operand .operand .ensures) (at-visit .visit .ensures) (at-is-refused .is-refused .ensures) (c .if1 .left) (at-visit .visit .kept .1 .0) (at-visit .visit .kept .1 .1 .0)
+
   operand-requires-2 : lts.Need-operand-requires-2 claims (process-next-at t) process-next.Post
   operand-requires-2 c κs =
       let start = c .before .before .before .before .before .before .before .before .before .before .before .before .before .before .before .before .before .before in
@@ -76,7 +87,7 @@ module _ (t : ℕ) where
       let at-operand = at-visit .before .before .before .before in
       let start = at-operand .before .before .before .before in
       let operands = start .pre .1 .1 .1 .1 in
-      (omega (arith, start .pre .0, c .operand2 .ensures, (start .pre .1 .1 .1 .1 .1 .0)), ((ready-on _ _ _ _ _ _ _ _ _ _ _ _ _ _ _ _ (ready _ _ _ _ _ _ _ _ _ _ (start .pre .1 .0) (start .pre .1 .1 .0) (start .pre .1 .1 .1 .0)) (omega (arith, at-operand .operand .ensures, operands .0, operands .1 .0)) (at-visit .visit .ensures) (went _ _ _ (at-is-refused .is-refused .ensures) (at-if1 .if1 .left)) (at-visit .visit .kept .1 .0) (at-visit .visit .kept .1 .1 .0)) .laid, (omega (arith, c .operand2 .ensures, (start .pre .1 .1 .1 .1 .1 .0), (start .pre .1 .1 .0)), (sym (at-is-refused .is-refused .ensures) ∙ at-if1 .if1 .left))))
+      (omega (arith, start .pre .0, c .operand2 .ensures, (start .pre .1 .1 .1 .1 .1 .0)), ((state at-if1 .ready) .laid, (omega (arith, c .operand2 .ensures, (start .pre .1 .1 .1 .1 .1 .0), (start .pre .1 .1 .0)), (state at-if1 .going))))
 
   is-refused-requires-2 : lts.Need-is-refused-requires-2 claims (process-next-at t) process-next.Post
   is-refused-requires-2 c κs = search needs
@@ -109,7 +120,19 @@ module _ (t : ℕ) where
       let inputs = inputsIn given call in
       let replies = repliesIn given call in
       let ways = waysBy given dumps call in
-      λ h f l. let m = at-visit .visit .ensures h f (omega (arith, at-operand .operand .ensures, operands .0, operands .1 .0, l)) in step-stop-2 given inputs replies ways (visitOf given ways f) (start .args .node) (view h given inputs replies (start .args .result .now) (start .args .scratch .now) (walkIn (start .args .counters .now))) _ _ _ _ _ _ _ _ (came-done _ _ _ _ _ _ _ m _ _ (went _ _ _ (at-is-refused .is-refused .ensures) (at-if1 .if1 .left))) _ _ (at-visit2 .visit2 .ensures (m .0) f (omega (arith, at-operand2 .operand2 .ensures, (start .pre .1 .1 .1 .1 .1 .0), l))) (stopped _ _ _ (c .before .is-refused2 .ensures) (c .if2 .taken)) (at-operand .operand .ensures) (at-operand2 .operand2 .ensures)
+      λ h f l. let m = state at-if1 .came h f l in step-stop-2 given inputs replies ways (visitOf given ways f) (start .args .node) (view h given inputs replies (start .args .result .now) (start .args .scratch .now) (walkIn (start .args .counters .now))) _ _ _ _ _ _ _ _ (m .1) _ _ (at-visit2 .visit2 .ensures (m .0) f (omega (arith, at-operand2 .operand2 .ensures, (start .pre .1 .1 .1 .1 .1 .0), l))) (stopped _ _ _ (c .before .is-refused2 .ensures) (c .if2 .taken)) refl (at-operand2 .operand2 .ensures)
+
+  value : (c : lts.Else2 claims (process-next-at t) process-next.Post)
+      → let at-is-refused2 = c .before in let at-visit2 = at-is-refused2 .before .before .before .before .before .before in let at-operand2 = at-visit2 .before in let at-if1 = at-operand2 .before .before .before .before in let at-visit = at-if1 .before .before .before .before .before .before .before in let start = at-visit .before .before .before .before .before .before .before .before in
+      Onward (start .args .given .now) (start .args .dumps .now) (start .args .call .now) (at-visit .visit .last .1 .0) (at-visit .visit .last .1 .1 .0) (at-visit .visit .last .1 .1 .1 .1 .1 .0) (at-visit2 .visit2 .last .1 .0) (at-visit2 .visit2 .last .1 .1 .0) (at-visit2 .visit2 .last .1 .1 .1 .1 .1 .0) (start .args .node) 3 (at-visit2 .visit2 .result)
+  value c =
+      let at-is-refused2 = c .before in
+      let at-visit2 = at-is-refused2 .before .before .before .before .before .before in
+      let at-operand2 = at-visit2 .before in
+      let at-if1 = at-operand2 .before .before .before .before in
+      let at-visit = at-if1 .before .before .before .before .before .before .before in
+      let start = at-visit .before .before .before .before .before .before .before .before in
+      onward _ _ _ _ _ _ _ _ _ _ _ _ _ _ (state at-if1 .ready) (start .pre .1 .1 .1 .1 .1 .0) (at-operand2 .operand2 .ensures) (at-visit2 .visit2 .ensures) (at-is-refused2 .is-refused2 .ensures) (c .if2 .left) (at-visit2 .visit2 .kept .1 .0) (at-visit2 .visit2 .kept .1 .1 .0)
 
   operand-requires-3 : lts.Need-operand-requires-3 claims (process-next-at t) process-next.Post
   operand-requires-3 c κs =
@@ -133,7 +156,7 @@ module _ (t : ℕ) where
       let at-operand = at-visit .before .before .before .before in
       let start = at-operand .before .before .before .before in
       let operands = start .pre .1 .1 .1 .1 in
-      (((start .pre .1 .1 .0), (start .pre .1 .0) .small), (omega (arith, (start .pre .1 .0) .room, at-visit .visit .kept .1 .0, at-visit2 .visit2 .kept .1 .0), ready-kept _ _ _ _ _ _ _ _ _ _ (ready-on _ _ _ _ _ _ _ _ _ _ _ _ _ _ _ _ (ready-on _ _ _ _ _ _ _ _ _ _ _ _ _ _ _ _ (ready _ _ _ _ _ _ _ _ _ _ (start .pre .1 .0) (start .pre .1 .1 .0) (start .pre .1 .1 .1 .0)) (omega (arith, at-operand .operand .ensures, operands .0, operands .1 .0)) (at-visit .visit .ensures) (went _ _ _ (at-is-refused .is-refused .ensures) (at-if1 .if1 .left)) (at-visit .visit .kept .1 .0) (at-visit .visit .kept .1 .1 .0)) (omega (arith, at-operand2 .operand2 .ensures, (start .pre .1 .1 .1 .1 .1 .0))) (at-visit2 .visit2 .ensures) (went _ _ _ (at-is-refused2 .is-refused2 .ensures) (at-if2 .if2 .left)) (at-visit2 .visit2 .kept .1 .0) (at-visit2 .visit2 .kept .1 .1 .0))))
+      (((start .pre .1 .1 .0), (start .pre .1 .0) .small), (omega (arith, (start .pre .1 .0) .room, at-visit .visit .kept .1 .0, at-visit2 .visit2 .kept .1 .0), ready-kept _ _ _ _ _ _ _ _ _ _ (value at-if2 .ready)))
 
   settle-requires : lts.Need-settle-requires claims (process-next-at t) process-next.Post
   settle-requires c κs =
@@ -148,7 +171,7 @@ module _ (t : ℕ) where
       let at-operand = at-visit .before .before .before .before in
       let start = at-operand .before .before .before .before in
       let operands = start .pre .1 .1 .1 .1 in
-      let q = ready-room _ _ _ _ _ _ _ _ _ _ (ready-on _ _ _ _ _ _ _ _ _ _ _ _ _ _ _ _ (ready-on _ _ _ _ _ _ _ _ _ _ _ _ _ _ _ _ (ready _ _ _ _ _ _ _ _ _ _ (start .pre .1 .0) (start .pre .1 .1 .0) (start .pre .1 .1 .1 .0)) (omega (arith, at-operand .operand .ensures, operands .0, operands .1 .0)) (at-visit .visit .ensures) (went _ _ _ (at-is-refused .is-refused .ensures) (at-if1 .if1 .left)) (at-visit .visit .kept .1 .0) (at-visit .visit .kept .1 .1 .0)) (omega (arith, at-operand2 .operand2 .ensures, (start .pre .1 .1 .1 .1 .1 .0))) (at-visit2 .visit2 .ensures) (went _ _ _ (at-is-refused2 .is-refused2 .ensures) (at-if2 .if2 .left)) (at-visit2 .visit2 .kept .1 .0) (at-visit2 .visit2 .kept .1 .1 .0)) in ((omega (arith, q .whole), q .small, q .inside), ((omega (arith, q .room, at-put-row .put-row .kept .1 .0), omega (arith, q .asks)), (q .few, (sym (at-is-refused2 .is-refused2 .ensures) ∙ at-if2 .if2 .left))))
+      let q = ready-room _ _ _ _ _ _ _ _ _ _ (value at-if2 .ready) in ((omega (arith, q .whole), q .small, q .inside), ((omega (arith, q .room, at-put-row .put-row .kept .1 .0), omega (arith, q .asks)), (q .few, (value at-if2 .going))))
 
   same-length-5 : lts.Need-same-length-5 claims (process-next-at t) process-next.Post
   same-length-5 c =
@@ -187,7 +210,7 @@ module _ (t : ℕ) where
       let inputs = inputsIn given call in
       let replies = repliesIn given call in
       let ways = waysBy given dumps call in
-      λ h f l. let m = at-visit .visit .ensures h f (omega (arith, at-operand .operand .ensures, operands .0, operands .1 .0, l)) in let p = at-visit2 .visit2 .ensures (m .0) f (omega (arith, at-operand2 .operand2 .ensures, (start .pre .1 .1 .1 .1 .1 .0), l)) in (p .0, step-go given ways (visitOf given ways f) (start .args .node) (view h given inputs replies (start .args .result .now) (start .args .scratch .now) (walkIn (start .args .counters .now))) _ _ _ (came-done _ _ _ _ _ _ _ m _ _ (went _ _ _ (at-is-refused .is-refused .ensures) (at-if1 .if1 .left))) _ _ _ (came-done _ _ _ _ _ _ _ p _ _ (went _ _ _ (at-is-refused2 .is-refused2 .ensures) (at-if2 .if2 .left))) _ _ _ _ (at-operand .operand .ensures) (at-operand2 .operand2 .ensures) (at-operand3 .operand3 .ensures) (at-operand4 .operand4 .ensures) (at-put-row .put-row .ensures (p .0) _ _ _ _) (at-settle .settle .ensures (p .0) _ _ _))
+      λ h f l. let m = state at-if1 .came h f l in let p = value at-if2 .came (m .0) f l in (p .0, step-go given ways (visitOf given ways f) (start .args .node) (view h given inputs replies (start .args .result .now) (start .args .scratch .now) (walkIn (start .args .counters .now))) _ _ _ (m .1) _ _ _ (p .1) _ _ _ _ refl refl (at-operand3 .operand3 .ensures) (at-operand4 .operand4 .ensures) (at-put-row .put-row .ensures (p .0) _ _ _ _) (at-settle .settle .ensures (p .0) _ _ _))
 
   pub proved : {M : Type 1} → lts.Closed claims (process-next-at t) process-next.Post M
   proved = lts.spec claims (process-next-at t) process-next.Post operand-requires visit-requires is-refused-requires same-length same-length-2 returns operand-requires-2 visit-requires-2 is-refused-requires-2 same-length-3 same-length-4 returns-2 operand-requires-3 operand-requires-4 put-row-requires settle-requires same-length-5 same-length-6 returns-3

@@ -1,13 +1,14 @@
 -- `process_right`: the right branch replaces it.
 -- Assumes nothing.
-use mathlib.Core.Path.{sym, _∙_}
+use mathlib.Core.Path.{refl, _∙_}
 use Prim.Native.Nat.{ℕ}
 use native.Mathlib.Omega.{arith}
 use borrow.Author.Needs.{needs}
 use Rattle.optimize.specs.Process.{visitOf}
 use Rattle.optimize.specs.View.{view}
-use Rattle.optimize.proofs.Walks.{came-done, right-stop, right-go}
-use Rattle.optimize.proofs.Keeps.{ready, ready-on, ready-room}
+use Rattle.optimize.proofs.Walks.{right-stop, right-go}
+use Rattle.optimize.proofs.Keeps.{ready, ready-room}
+use Rattle.optimize.proofs.Onward.{Onward, onward}
 use Rattle.optimize.proofs.buffers.operand.Reads as operand-reads
 use Rattle.optimize.proofs.visit.visit.Reads as visit
 use Rattle.optimize.proofs.buffers.put_row.Reads as put-row-reads
@@ -16,7 +17,7 @@ use Rattle.optimize.proofs.visit.process_right.Reads as process-right
 use Rattle.optimize.proofs.visit.+process+process_both+process_ite+process_left+process_next+process_one+process_right+process_three+process_two+visit.Lts-process_right as lts
 use Rattle.optimize.proofs.counters.is_refused.Reads as is-refused-reads
 use Rattle.optimize.specs.Counters.{walkIn}
-use Rattle.optimize.proofs.CounterLaws.{went, stopped}
+use Rattle.optimize.proofs.CounterLaws.{stopped}
 use Rattle.optimize.specs.CallWords.{inputsIn, repliesIn, waysBy}
 use Rattle.optimize.proofs.Keeps.{ready-kept}
 use Rattle.optimize.proofs.visit.+process+process_both+process_ite+process_left+process_next+process_one+process_right+process_three+process_two+visit.Proof.Measures.{process-right-at, visit-below}
@@ -61,6 +62,16 @@ module _ (t : ℕ) where
       let ways = waysBy given dumps call in
       λ h f l. right-stop given inputs replies ways (visitOf given ways f) (start .args .node) (view h given inputs replies (start .args .result .now) (start .args .scratch .now) (walkIn (start .args .counters .now))) _ _ _ _ _ _ _ (at-visit .visit .ensures h f (omega (arith, at-operand .operand .ensures, (start .pre .1 .1 .1 .1 .0), l))) (stopped _ _ _ (c .before .is-refused .ensures) (c .if1 .taken)) (start .args .x) (at-operand .operand .ensures)
 
+  first : (c : lts.Else1 claims (process-right-at t) process-right.Post)
+      → let at-is-refused = c .before in let at-visit = at-is-refused .before .before .before .before .before .before in let at-operand = at-visit .before in let start = at-operand .before .before .before .before .before .before .before in
+      Onward (start .args .given .now) (start .args .dumps .now) (start .args .call .now) (start .args .result .now) (start .args .scratch .now) (start .args .counters .now) (at-visit .visit .last .1 .0) (at-visit .visit .last .1 .1 .0) (at-visit .visit .last .1 .1 .1 .1 .1 .0) (start .args .node) 4 (at-visit .visit .result)
+  first c =
+      let at-is-refused = c .before in
+      let at-visit = at-is-refused .before .before .before .before .before .before in
+      let at-operand = at-visit .before in
+      let start = at-operand .before .before .before .before .before .before .before in
+      onward _ _ _ _ _ _ _ _ _ _ _ _ _ _ (ready _ _ _ _ _ _ _ _ _ _ (start .pre .1 .0) (start .pre .1 .1 .0) (start .pre .1 .1 .1 .0)) (start .pre .1 .1 .1 .1 .0) (at-operand .operand .ensures) (at-visit .visit .ensures) (at-is-refused .is-refused .ensures) (c .if1 .left) (at-visit .visit .kept .1 .0) (at-visit .visit .kept .1 .1 .0)
+
   operand-requires-2 : lts.Need-operand-requires-2 claims (process-right-at t) process-right.Post
   operand-requires-2 c κs =
       let start = c .before .before .before .before .before .before .before .before .before .before .before .before .before .before .before .before in
@@ -73,7 +84,7 @@ module _ (t : ℕ) where
       let at-visit = at-is-refused .before .before .before .before .before .before in
       let at-operand = at-visit .before in
       let start = at-operand .before .before .before .before .before .before .before in
-      (((start .pre .1 .1 .0), (start .pre .1 .0) .small), (omega (arith, (start .pre .1 .0) .room, at-visit .visit .kept .1 .0), ready-kept _ _ _ _ _ _ _ _ _ _ (ready-on _ _ _ _ _ _ _ _ _ _ _ _ _ _ _ _ (ready _ _ _ _ _ _ _ _ _ _ (start .pre .1 .0) (start .pre .1 .1 .0) (start .pre .1 .1 .1 .0)) (omega (arith, at-operand .operand .ensures, (start .pre .1 .1 .1 .1 .0))) (at-visit .visit .ensures) (went _ _ _ (at-is-refused .is-refused .ensures) (at-if1 .if1 .left)) (at-visit .visit .kept .1 .0) (at-visit .visit .kept .1 .1 .0))))
+      (((start .pre .1 .1 .0), (start .pre .1 .0) .small), (omega (arith, (start .pre .1 .0) .room, at-visit .visit .kept .1 .0), ready-kept _ _ _ _ _ _ _ _ _ _ (first at-if1 .ready)))
 
   settle-requires : lts.Need-settle-requires claims (process-right-at t) process-right.Post
   settle-requires c κs =
@@ -83,7 +94,7 @@ module _ (t : ℕ) where
       let at-visit = at-is-refused .before .before .before .before .before .before in
       let at-operand = at-visit .before in
       let start = at-operand .before .before .before .before .before .before .before in
-      let q = (ready-room _ _ _ _ _ _ _ _ _ _ (ready-on _ _ _ _ _ _ _ _ _ _ _ _ _ _ _ _ (ready _ _ _ _ _ _ _ _ _ _ (start .pre .1 .0) (start .pre .1 .1 .0) (start .pre .1 .1 .1 .0)) (omega (arith, at-operand .operand .ensures, (start .pre .1 .1 .1 .1 .0))) (at-visit .visit .ensures) (went _ _ _ (at-is-refused .is-refused .ensures) (at-if1 .if1 .left)) (at-visit .visit .kept .1 .0) (at-visit .visit .kept .1 .1 .0))) in ((omega (arith, q .whole), q .small, q .inside), ((omega (arith, q .room, at-put-row .put-row .kept .1 .0), omega (arith, q .asks)), (q .few, (sym (at-is-refused .is-refused .ensures) ∙ at-if1 .if1 .left))))
+      let q = (ready-room _ _ _ _ _ _ _ _ _ _ (first at-if1 .ready)) in ((omega (arith, q .whole), q .small, q .inside), ((omega (arith, q .room, at-put-row .put-row .kept .1 .0), omega (arith, q .asks)), (q .few, (first at-if1 .going))))
 
   same-length-3 : lts.Need-same-length-3 claims (process-right-at t) process-right.Post
   same-length-3 c =
@@ -112,7 +123,7 @@ module _ (t : ℕ) where
       let call = start .args .call .now in
       let dumps = start .args .dumps .now in
       let ways = waysBy given dumps call in
-      λ h f l. let m = at-visit .visit .ensures h f (omega (arith, at-operand .operand .ensures, (start .pre .1 .1 .1 .1 .0), l)) in (m .0, right-go given ways (visitOf given ways f) (start .args .node) (view h given (inputsIn given call) (repliesIn given call) (start .args .result .now) (start .args .scratch .now) (walkIn (start .args .counters .now))) _ _ _ (came-done _ _ _ _ _ _ _ m _ _ (went _ _ _ (at-is-refused .is-refused .ensures) (at-if1 .if1 .left))) (start .args .x) _ _ _ (at-operand .operand .ensures) (at-operand2 .operand2 .ensures) (at-put-row .put-row .ensures (m .0) _ _ _ _) (at-settle .settle .ensures (m .0) _ _ _))
+      λ h f l. let m = first at-if1 .came h f l in (m .0, right-go given ways (visitOf given ways f) (start .args .node) (view h given (inputsIn given call) (repliesIn given call) (start .args .result .now) (start .args .scratch .now) (walkIn (start .args .counters .now))) _ _ _ (m .1) (start .args .x) _ _ _ refl (at-operand2 .operand2 .ensures) (at-put-row .put-row .ensures (m .0) _ _ _ _) (at-settle .settle .ensures (m .0) _ _ _))
 
   pub proved : {M : Type 1} → lts.Closed claims (process-right-at t) process-right.Post M
   proved = lts.spec claims (process-right-at t) process-right.Post operand-requires visit-requires is-refused-requires same-length same-length-2 returns operand-requires-2 put-row-requires settle-requires same-length-3 same-length-4 returns-2

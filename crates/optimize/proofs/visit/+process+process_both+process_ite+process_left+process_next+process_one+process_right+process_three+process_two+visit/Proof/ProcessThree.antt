@@ -1,13 +1,14 @@
 -- `process_three`: three visits, the row, and it stays.
 -- Assumes nothing.
-use mathlib.Core.Path.{sym, _∙_}
+use mathlib.Core.Path.{refl, _∙_}
 use Prim.Native.Nat.{ℕ}
 use native.Mathlib.Omega.{arith}
 use borrow.Author.Needs.{needs}
 use Rattle.optimize.specs.Process.{visitOf}
 use Rattle.optimize.specs.View.{view}
-use Rattle.optimize.proofs.Walks.{came-done, three-stop, three-stop-2, three-stop-3, three-go}
-use Rattle.optimize.proofs.Keeps.{ready, ready-on, ready-room}
+use Rattle.optimize.proofs.Walks.{three-stop, three-stop-2, three-stop-3, three-go}
+use Rattle.optimize.proofs.Keeps.{ready, ready-room}
+use Rattle.optimize.proofs.Onward.{Onward, onward}
 use Rattle.optimize.proofs.buffers.operand.Reads as operand-reads
 use Rattle.optimize.proofs.visit.visit.Reads as visit
 use Rattle.optimize.proofs.buffers.put_row.Reads as put-row-reads
@@ -16,7 +17,7 @@ use Rattle.optimize.proofs.visit.process_three.Reads as process-three
 use Rattle.optimize.proofs.visit.+process+process_both+process_ite+process_left+process_next+process_one+process_right+process_three+process_two+visit.Lts-process_three as lts
 use Rattle.optimize.proofs.counters.is_refused.Reads as is-refused-reads
 use Rattle.optimize.specs.Counters.{walkIn}
-use Rattle.optimize.proofs.CounterLaws.{went, stopped}
+use Rattle.optimize.proofs.CounterLaws.{stopped}
 use Rattle.optimize.specs.CallWords.{inputsIn, repliesIn, waysBy}
 use Rattle.optimize.proofs.Keeps.{ready-kept}
 use Rattle.optimize.proofs.visit.+process+process_both+process_ite+process_left+process_next+process_one+process_right+process_three+process_two+visit.Proof.Measures.{process-three-at, visit-below}
@@ -61,6 +62,16 @@ module _ (t : ℕ) where
       let ways = waysBy given dumps call in
       λ h f l. three-stop given inputs replies ways (visitOf given ways f) (start .args .node) (view h given inputs replies (start .args .result .now) (start .args .scratch .now) (walkIn (start .args .counters .now))) _ _ _ _ _ _ _ (at-visit .visit .ensures h f (omega (arith, at-operand .operand .ensures, (start .pre .1 .1 .1 .1 .0), l))) (stopped _ _ _ (c .before .is-refused .ensures) (c .if1 .taken)) (at-operand .operand .ensures)
 
+  first : (c : lts.Else1 claims (process-three-at t) process-three.Post)
+      → let at-is-refused = c .before in let at-visit = at-is-refused .before .before .before .before .before .before in let at-operand = at-visit .before in let start = at-operand .before .before .before .before .before .before .before in
+      Onward (start .args .given .now) (start .args .dumps .now) (start .args .call .now) (start .args .result .now) (start .args .scratch .now) (start .args .counters .now) (at-visit .visit .last .1 .0) (at-visit .visit .last .1 .1 .0) (at-visit .visit .last .1 .1 .1 .1 .1 .0) (start .args .node) 2 (at-visit .visit .result)
+  first c =
+      let at-is-refused = c .before in
+      let at-visit = at-is-refused .before .before .before .before .before .before in
+      let at-operand = at-visit .before in
+      let start = at-operand .before .before .before .before .before .before .before in
+      onward _ _ _ _ _ _ _ _ _ _ _ _ _ _ (ready _ _ _ _ _ _ _ _ _ _ (start .pre .1 .0) (start .pre .1 .1 .0) (start .pre .1 .1 .1 .0)) (start .pre .1 .1 .1 .1 .0) (at-operand .operand .ensures) (at-visit .visit .ensures) (at-is-refused .is-refused .ensures) (c .if1 .left) (at-visit .visit .kept .1 .0) (at-visit .visit .kept .1 .1 .0)
+
   operand-requires-2 : lts.Need-operand-requires-2 claims (process-three-at t) process-three.Post
   operand-requires-2 c κs =
       let start = c .before .before .before .before .before .before .before .before .before .before .before .before .before .before .before .before .before .before in
@@ -73,7 +84,7 @@ module _ (t : ℕ) where
       let at-visit = at-is-refused .before .before .before .before .before .before in
       let at-operand = at-visit .before in
       let start = at-operand .before .before .before .before .before .before .before in
-      (omega (arith, start .pre .0, c .operand2 .ensures, (start .pre .1 .1 .1 .1 .1 .0)), ((ready-on _ _ _ _ _ _ _ _ _ _ _ _ _ _ _ _ (ready _ _ _ _ _ _ _ _ _ _ (start .pre .1 .0) (start .pre .1 .1 .0) (start .pre .1 .1 .1 .0)) (omega (arith, at-operand .operand .ensures, (start .pre .1 .1 .1 .1 .0))) (at-visit .visit .ensures) (went _ _ _ (at-is-refused .is-refused .ensures) (at-if1 .if1 .left)) (at-visit .visit .kept .1 .0) (at-visit .visit .kept .1 .1 .0)) .laid, (omega (arith, c .operand2 .ensures, (start .pre .1 .1 .1 .1 .1 .0), (start .pre .1 .1 .0)), (sym (at-is-refused .is-refused .ensures) ∙ at-if1 .if1 .left))))
+      (omega (arith, start .pre .0, c .operand2 .ensures, (start .pre .1 .1 .1 .1 .1 .0)), ((first at-if1 .ready) .laid, (omega (arith, c .operand2 .ensures, (start .pre .1 .1 .1 .1 .1 .0), (start .pre .1 .1 .0)), (first at-if1 .going))))
 
   is-refused-requires-2 : lts.Need-is-refused-requires-2 claims (process-three-at t) process-three.Post
   is-refused-requires-2 c κs = search needs
@@ -105,7 +116,19 @@ module _ (t : ℕ) where
       let inputs = inputsIn given call in
       let replies = repliesIn given call in
       let ways = waysBy given dumps call in
-      λ h f l. let m = at-visit .visit .ensures h f (omega (arith, at-operand .operand .ensures, (start .pre .1 .1 .1 .1 .0), l)) in three-stop-2 given inputs replies ways (visitOf given ways f) (start .args .node) (view h given inputs replies (start .args .result .now) (start .args .scratch .now) (walkIn (start .args .counters .now))) _ _ _ _ _ _ _ _ (came-done _ _ _ _ _ _ _ m _ _ (went _ _ _ (at-is-refused .is-refused .ensures) (at-if1 .if1 .left))) _ _ (at-visit2 .visit2 .ensures (m .0) f (omega (arith, at-operand2 .operand2 .ensures, (start .pre .1 .1 .1 .1 .1 .0), l))) (stopped _ _ _ (c .before .is-refused2 .ensures) (c .if2 .taken)) (at-operand .operand .ensures) (at-operand2 .operand2 .ensures)
+      λ h f l. let m = first at-if1 .came h f l in three-stop-2 given inputs replies ways (visitOf given ways f) (start .args .node) (view h given inputs replies (start .args .result .now) (start .args .scratch .now) (walkIn (start .args .counters .now))) _ _ _ _ _ _ _ _ (m .1) _ _ (at-visit2 .visit2 .ensures (m .0) f (omega (arith, at-operand2 .operand2 .ensures, (start .pre .1 .1 .1 .1 .1 .0), l))) (stopped _ _ _ (c .before .is-refused2 .ensures) (c .if2 .taken)) refl (at-operand2 .operand2 .ensures)
+
+  second : (c : lts.Else2 claims (process-three-at t) process-three.Post)
+      → let at-is-refused2 = c .before in let at-visit2 = at-is-refused2 .before .before .before .before .before .before in let at-operand2 = at-visit2 .before in let at-if1 = at-operand2 .before .before .before .before in let at-visit = at-if1 .before .before .before .before .before .before .before in let start = at-visit .before .before .before .before .before .before .before .before in
+      Onward (start .args .given .now) (start .args .dumps .now) (start .args .call .now) (at-visit .visit .last .1 .0) (at-visit .visit .last .1 .1 .0) (at-visit .visit .last .1 .1 .1 .1 .1 .0) (at-visit2 .visit2 .last .1 .0) (at-visit2 .visit2 .last .1 .1 .0) (at-visit2 .visit2 .last .1 .1 .1 .1 .1 .0) (start .args .node) 3 (at-visit2 .visit2 .result)
+  second c =
+      let at-is-refused2 = c .before in
+      let at-visit2 = at-is-refused2 .before .before .before .before .before .before in
+      let at-operand2 = at-visit2 .before in
+      let at-if1 = at-operand2 .before .before .before .before in
+      let at-visit = at-if1 .before .before .before .before .before .before .before in
+      let start = at-visit .before .before .before .before .before .before .before .before in
+      onward _ _ _ _ _ _ _ _ _ _ _ _ _ _ (first at-if1 .ready) (start .pre .1 .1 .1 .1 .1 .0) (at-operand2 .operand2 .ensures) (at-visit2 .visit2 .ensures) (at-is-refused2 .is-refused2 .ensures) (c .if2 .left) (at-visit2 .visit2 .kept .1 .0) (at-visit2 .visit2 .kept .1 .1 .0)
 
   operand-requires-3 : lts.Need-operand-requires-3 claims (process-three-at t) process-three.Post
   operand-requires-3 c κs =
@@ -123,7 +146,7 @@ module _ (t : ℕ) where
       let at-visit = at-is-refused .before .before .before .before .before .before in
       let at-operand = at-visit .before in
       let start = at-operand .before .before .before .before .before .before .before in
-      (omega (arith, start .pre .0, c .operand3 .ensures, (start .pre .1 .1 .1 .1 .1 .1 .0)), ((ready-on _ _ _ _ _ _ _ _ _ _ _ _ _ _ _ _ (ready-on _ _ _ _ _ _ _ _ _ _ _ _ _ _ _ _ (ready _ _ _ _ _ _ _ _ _ _ (start .pre .1 .0) (start .pre .1 .1 .0) (start .pre .1 .1 .1 .0)) (omega (arith, at-operand .operand .ensures, (start .pre .1 .1 .1 .1 .0))) (at-visit .visit .ensures) (went _ _ _ (at-is-refused .is-refused .ensures) (at-if1 .if1 .left)) (at-visit .visit .kept .1 .0) (at-visit .visit .kept .1 .1 .0)) (omega (arith, at-operand2 .operand2 .ensures, (start .pre .1 .1 .1 .1 .1 .0))) (at-visit2 .visit2 .ensures) (went _ _ _ (at-is-refused2 .is-refused2 .ensures) (at-if2 .if2 .left)) (at-visit2 .visit2 .kept .1 .0) (at-visit2 .visit2 .kept .1 .1 .0)) .laid, (omega (arith, c .operand3 .ensures, (start .pre .1 .1 .1 .1 .1 .1 .0), (start .pre .1 .1 .0)), (sym (at-is-refused2 .is-refused2 .ensures) ∙ at-if2 .if2 .left))))
+      (omega (arith, start .pre .0, c .operand3 .ensures, (start .pre .1 .1 .1 .1 .1 .1 .0)), ((second at-if2 .ready) .laid, (omega (arith, c .operand3 .ensures, (start .pre .1 .1 .1 .1 .1 .1 .0), (start .pre .1 .1 .0)), (second at-if2 .going))))
 
   is-refused-requires-3 : lts.Need-is-refused-requires-3 claims (process-three-at t) process-three.Post
   is-refused-requires-3 c κs = search needs
@@ -161,11 +184,25 @@ module _ (t : ℕ) where
       let inputs = inputsIn given call in
       let replies = repliesIn given call in
       let ways = waysBy given dumps call in
-      λ h f l. let m = at-visit .visit .ensures h f (omega (arith, at-operand .operand .ensures, (start .pre .1 .1 .1 .1 .0), l)) in let p = at-visit2 .visit2 .ensures (m .0) f (omega (arith, at-operand2 .operand2 .ensures, (start .pre .1 .1 .1 .1 .1 .0), l)) in three-stop-3 given inputs replies ways (visitOf given ways f) (start .args .node) (view h given inputs replies (start .args .result .now) (start .args .scratch .now) (walkIn (start .args .counters .now))) _ _ _ _ _ _ _ _ (came-done _ _ _ _ _ _ _ m _ _ (went _ _ _ (at-is-refused .is-refused .ensures) (at-if1 .if1 .left))) _ _ _ (came-done _ _ _ _ _ _ _ p _ _ (went _ _ _ (at-is-refused2 .is-refused2 .ensures) (at-if2 .if2 .left))) _ _ (at-visit3 .visit3 .ensures (p .0) f (omega (arith, at-operand3 .operand3 .ensures, (start .pre .1 .1 .1 .1 .1 .1 .0), l))) (stopped _ _ _ (c .before .is-refused3 .ensures) (c .if3 .taken)) (at-operand .operand .ensures) (at-operand2 .operand2 .ensures) (at-operand3 .operand3 .ensures)
+      λ h f l. let m = first at-if1 .came h f l in let p = second at-if2 .came (m .0) f l in three-stop-3 given inputs replies ways (visitOf given ways f) (start .args .node) (view h given inputs replies (start .args .result .now) (start .args .scratch .now) (walkIn (start .args .counters .now))) _ _ _ _ _ _ _ _ (m .1) _ _ _ (p .1) _ _ (at-visit3 .visit3 .ensures (p .0) f (omega (arith, at-operand3 .operand3 .ensures, (start .pre .1 .1 .1 .1 .1 .1 .0), l))) (stopped _ _ _ (c .before .is-refused3 .ensures) (c .if3 .taken)) refl refl (at-operand3 .operand3 .ensures)
+
+  third : (c : lts.Else3 claims (process-three-at t) process-three.Post)
+      → let at-is-refused3 = c .before in let at-visit3 = at-is-refused3 .before .before .before .before .before .before in let at-operand3 = at-visit3 .before in let at-if2 = at-operand3 .before .before .before .before in let at-visit2 = at-if2 .before .before .before .before .before .before .before in let at-visit = at-visit2 .before .before .before .before .before .before .before .before .before .before .before .before in let start = at-visit .before .before .before .before .before .before .before .before in
+      Onward (start .args .given .now) (start .args .dumps .now) (start .args .call .now) (at-visit2 .visit2 .last .1 .0) (at-visit2 .visit2 .last .1 .1 .0) (at-visit2 .visit2 .last .1 .1 .1 .1 .1 .0) (at-visit3 .visit3 .last .1 .0) (at-visit3 .visit3 .last .1 .1 .0) (at-visit3 .visit3 .last .1 .1 .1 .1 .1 .0) (start .args .node) 4 (at-visit3 .visit3 .result)
+  third c =
+      let at-is-refused3 = c .before in
+      let at-visit3 = at-is-refused3 .before .before .before .before .before .before in
+      let at-operand3 = at-visit3 .before in
+      let at-if2 = at-operand3 .before .before .before .before in
+      let at-visit2 = at-if2 .before .before .before .before .before .before .before in
+      let at-visit = at-visit2 .before .before .before .before .before .before .before .before .before .before .before .before in
+      let start = at-visit .before .before .before .before .before .before .before .before in
+      onward _ _ _ _ _ _ _ _ _ _ _ _ _ _ (second at-if2 .ready) (start .pre .1 .1 .1 .1 .1 .1 .0) (at-operand3 .operand3 .ensures) (at-visit3 .visit3 .ensures) (at-is-refused3 .is-refused3 .ensures) (c .if3 .left) (at-visit3 .visit3 .kept .1 .0) (at-visit3 .visit3 .kept .1 .1 .0)
 
   put-row-requires : lts.Need-put-row-requires claims (process-three-at t) process-three.Post
   put-row-requires c κs =
-      let at-is-refused3 = c .before .before in
+      let at-if3 = c .before in
+      let at-is-refused3 = at-if3 .before in
       let at-visit3 = at-is-refused3 .before .before .before .before .before .before in
       let at-operand3 = at-visit3 .before in
       let at-if2 = at-operand3 .before .before .before .before in
@@ -177,7 +214,7 @@ module _ (t : ℕ) where
       let at-visit = at-is-refused .before .before .before .before .before .before in
       let at-operand = at-visit .before in
       let start = at-operand .before .before .before .before .before .before .before in
-      (((start .pre .1 .1 .0), (start .pre .1 .0) .small), (omega (arith, (start .pre .1 .0) .room, at-visit .visit .kept .1 .0, at-visit2 .visit2 .kept .1 .0, at-visit3 .visit3 .kept .1 .0), ready-kept _ _ _ _ _ _ _ _ _ _ (ready-on _ _ _ _ _ _ _ _ _ _ _ _ _ _ _ _ (ready-on _ _ _ _ _ _ _ _ _ _ _ _ _ _ _ _ (ready-on _ _ _ _ _ _ _ _ _ _ _ _ _ _ _ _ (ready _ _ _ _ _ _ _ _ _ _ (start .pre .1 .0) (start .pre .1 .1 .0) (start .pre .1 .1 .1 .0)) (omega (arith, at-operand .operand .ensures, (start .pre .1 .1 .1 .1 .0))) (at-visit .visit .ensures) (went _ _ _ (at-is-refused .is-refused .ensures) (at-if1 .if1 .left)) (at-visit .visit .kept .1 .0) (at-visit .visit .kept .1 .1 .0)) (omega (arith, at-operand2 .operand2 .ensures, (start .pre .1 .1 .1 .1 .1 .0))) (at-visit2 .visit2 .ensures) (went _ _ _ (at-is-refused2 .is-refused2 .ensures) (at-if2 .if2 .left)) (at-visit2 .visit2 .kept .1 .0) (at-visit2 .visit2 .kept .1 .1 .0)) (omega (arith, at-operand3 .operand3 .ensures, (start .pre .1 .1 .1 .1 .1 .1 .0))) (at-visit3 .visit3 .ensures) (went _ _ _ (at-is-refused3 .is-refused3 .ensures) (c .before .if3 .left)) (at-visit3 .visit3 .kept .1 .0) (at-visit3 .visit3 .kept .1 .1 .0))))
+      (((start .pre .1 .1 .0), (start .pre .1 .0) .small), (omega (arith, (start .pre .1 .0) .room, at-visit .visit .kept .1 .0, at-visit2 .visit2 .kept .1 .0, at-visit3 .visit3 .kept .1 .0), ready-kept _ _ _ _ _ _ _ _ _ _ (third at-if3 .ready)))
 
   settle-requires : lts.Need-settle-requires claims (process-three-at t) process-three.Post
   settle-requires c κs =
@@ -195,7 +232,7 @@ module _ (t : ℕ) where
       let at-visit = at-is-refused .before .before .before .before .before .before in
       let at-operand = at-visit .before in
       let start = at-operand .before .before .before .before .before .before .before in
-      let q = (ready-room _ _ _ _ _ _ _ _ _ _ (ready-on _ _ _ _ _ _ _ _ _ _ _ _ _ _ _ _ (ready-on _ _ _ _ _ _ _ _ _ _ _ _ _ _ _ _ (ready-on _ _ _ _ _ _ _ _ _ _ _ _ _ _ _ _ (ready _ _ _ _ _ _ _ _ _ _ (start .pre .1 .0) (start .pre .1 .1 .0) (start .pre .1 .1 .1 .0)) (omega (arith, at-operand .operand .ensures, (start .pre .1 .1 .1 .1 .0))) (at-visit .visit .ensures) (went _ _ _ (at-is-refused .is-refused .ensures) (at-if1 .if1 .left)) (at-visit .visit .kept .1 .0) (at-visit .visit .kept .1 .1 .0)) (omega (arith, at-operand2 .operand2 .ensures, (start .pre .1 .1 .1 .1 .1 .0))) (at-visit2 .visit2 .ensures) (went _ _ _ (at-is-refused2 .is-refused2 .ensures) (at-if2 .if2 .left)) (at-visit2 .visit2 .kept .1 .0) (at-visit2 .visit2 .kept .1 .1 .0)) (omega (arith, at-operand3 .operand3 .ensures, (start .pre .1 .1 .1 .1 .1 .1 .0))) (at-visit3 .visit3 .ensures) (went _ _ _ (at-is-refused3 .is-refused3 .ensures) (at-if3 .if3 .left)) (at-visit3 .visit3 .kept .1 .0) (at-visit3 .visit3 .kept .1 .1 .0))) in ((omega (arith, q .whole), q .small, q .inside), ((omega (arith, q .room, at-put-row .put-row .kept .1 .0), omega (arith, q .asks)), (q .few, (sym (at-is-refused3 .is-refused3 .ensures) ∙ at-if3 .if3 .left))))
+      let q = (ready-room _ _ _ _ _ _ _ _ _ _ (third at-if3 .ready)) in ((omega (arith, q .whole), q .small, q .inside), ((omega (arith, q .room, at-put-row .put-row .kept .1 .0), omega (arith, q .asks)), (q .few, (third at-if3 .going))))
 
   same-length-7 : lts.Need-same-length-7 claims (process-three-at t) process-three.Post
   same-length-7 c =
@@ -235,7 +272,7 @@ module _ (t : ℕ) where
       let call = start .args .call .now in
       let dumps = start .args .dumps .now in
       let ways = waysBy given dumps call in
-      λ h f l. let m = at-visit .visit .ensures h f (omega (arith, at-operand .operand .ensures, (start .pre .1 .1 .1 .1 .0), l)) in let p = at-visit2 .visit2 .ensures (m .0) f (omega (arith, at-operand2 .operand2 .ensures, (start .pre .1 .1 .1 .1 .1 .0), l)) in let q = at-visit3 .visit3 .ensures (p .0) f (omega (arith, at-operand3 .operand3 .ensures, (start .pre .1 .1 .1 .1 .1 .1 .0), l)) in (q .0, three-go given ways (visitOf given ways f) (start .args .node) (view h given (inputsIn given call) (repliesIn given call) (start .args .result .now) (start .args .scratch .now) (walkIn (start .args .counters .now))) _ _ _ (came-done _ _ _ _ _ _ _ m _ _ (went _ _ _ (at-is-refused .is-refused .ensures) (at-if1 .if1 .left))) _ _ _ (came-done _ _ _ _ _ _ _ p _ _ (went _ _ _ (at-is-refused2 .is-refused2 .ensures) (at-if2 .if2 .left))) _ _ _ (came-done _ _ _ _ _ _ _ q _ _ (went _ _ _ (at-is-refused3 .is-refused3 .ensures) (at-if3 .if3 .left))) _ _ (at-operand .operand .ensures) (at-operand2 .operand2 .ensures) (at-operand3 .operand3 .ensures) (at-put-row .put-row .ensures (q .0) _ _ _ _) (at-settle .settle .ensures (q .0) _ _ _))
+      λ h f l. let m = first at-if1 .came h f l in let p = second at-if2 .came (m .0) f l in let q = third at-if3 .came (p .0) f l in (q .0, three-go given ways (visitOf given ways f) (start .args .node) (view h given (inputsIn given call) (repliesIn given call) (start .args .result .now) (start .args .scratch .now) (walkIn (start .args .counters .now))) _ _ _ (m .1) _ _ _ (p .1) _ _ _ (q .1) _ _ refl refl refl (at-put-row .put-row .ensures (q .0) _ _ _ _) (at-settle .settle .ensures (q .0) _ _ _))
 
   pub proved : {M : Type 1} → lts.Closed claims (process-three-at t) process-three.Post M
   proved = lts.spec claims (process-three-at t) process-three.Post operand-requires visit-requires is-refused-requires same-length same-length-2 returns operand-requires-2 visit-requires-2 is-refused-requires-2 same-length-3 same-length-4 returns-2 operand-requires-3 visit-requires-3 is-refused-requires-3 same-length-5 same-length-6 returns-3 put-row-requires settle-requires same-length-7 same-length-8 returns-4

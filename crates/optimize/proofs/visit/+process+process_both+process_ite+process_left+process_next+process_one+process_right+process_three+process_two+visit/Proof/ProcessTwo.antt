@@ -1,14 +1,15 @@
 -- `process_two`: two visits, the row, what comes after two operands.
 -- Assumes nothing.
-use mathlib.Core.Path.{sym, _∙_}
+use mathlib.Core.Path.{refl, _∙_}
 use mathlib.Core.List.{[]}
 use Prim.Native.Nat.{ℕ}
 use native.Mathlib.Omega.{arith}
 use borrow.Author.Needs.{needs}
 use Rattle.optimize.specs.Process.{afterTwo, visitOf}
 use Rattle.optimize.specs.View.{view}
-use Rattle.optimize.proofs.Walks.{came-done, two-stop, two-stop-2, two-go}
-use Rattle.optimize.proofs.Keeps.{ready, ready-on, ready-room, ready-falls, room-row, falls-row}
+use Rattle.optimize.proofs.Walks.{two-stop, two-stop-2, two-go}
+use Rattle.optimize.proofs.Keeps.{ready, ready-room, ready-falls, room-row, falls-row}
+use Rattle.optimize.proofs.Onward.{Onward, onward}
 use Rattle.optimize.proofs.buffers.operand.Reads as operand-reads
 use Rattle.optimize.proofs.visit.visit.Reads as visit
 use Rattle.optimize.proofs.buffers.put_row.Reads as put-row-reads
@@ -17,7 +18,7 @@ use Rattle.optimize.proofs.visit.process_two.Reads as process-two
 use Rattle.optimize.proofs.visit.+process+process_both+process_ite+process_left+process_next+process_one+process_right+process_three+process_two+visit.Lts-process_two as lts
 use Rattle.optimize.proofs.counters.is_refused.Reads as is-refused-reads
 use Rattle.optimize.specs.Counters.{walkIn}
-use Rattle.optimize.proofs.CounterLaws.{went, stopped}
+use Rattle.optimize.proofs.CounterLaws.{stopped}
 use Rattle.optimize.specs.CallWords.{inputsIn, repliesIn, waysBy}
 use Rattle.optimize.specs.Counters.{walkIn}
 use Rattle.optimize.proofs.Keeps.{ready-kept}
@@ -63,6 +64,16 @@ module _ (t : ℕ) where
       let ways = waysBy given dumps call in
       λ h f l. two-stop given inputs replies ways (visitOf given ways f) (start .args .node) (view h given inputs replies (start .args .result .now) (start .args .scratch .now) (walkIn (start .args .counters .now))) _ _ _ _ _ _ _ (at-visit .visit .ensures h f (omega (arith, at-operand .operand .ensures, (start .pre .1 .1 .1 .1 .0), l))) (stopped _ _ _ (c .before .is-refused .ensures) (c .if1 .taken)) (afterTwo given ways (start .args .pair)) (at-operand .operand .ensures)
 
+  first : (c : lts.Else1 claims (process-two-at t) process-two.Post)
+      → let at-is-refused = c .before in let at-visit = at-is-refused .before .before .before .before .before .before in let at-operand = at-visit .before in let start = at-operand .before .before .before .before .before .before .before in
+      Onward (start .args .given .now) (start .args .dumps .now) (start .args .call .now) (start .args .result .now) (start .args .scratch .now) (start .args .counters .now) (at-visit .visit .last .1 .0) (at-visit .visit .last .1 .1 .0) (at-visit .visit .last .1 .1 .1 .1 .1 .0) (start .args .node) 2 (at-visit .visit .result)
+  first c =
+      let at-is-refused = c .before in
+      let at-visit = at-is-refused .before .before .before .before .before .before in
+      let at-operand = at-visit .before in
+      let start = at-operand .before .before .before .before .before .before .before in
+      onward _ _ _ _ _ _ _ _ _ _ _ _ _ _ (ready _ _ _ _ _ _ _ _ _ _ (start .pre .1 .0) (start .pre .1 .1 .0) (start .pre .1 .1 .1 .0)) (start .pre .1 .1 .1 .1 .0) (at-operand .operand .ensures) (at-visit .visit .ensures) (at-is-refused .is-refused .ensures) (c .if1 .left) (at-visit .visit .kept .1 .0) (at-visit .visit .kept .1 .1 .0)
+
   operand-requires-2 : lts.Need-operand-requires-2 claims (process-two-at t) process-two.Post
   operand-requires-2 c κs =
       let start = c .before .before .before .before .before .before .before .before .before .before .before .before .before .before .before .before .before .before in
@@ -75,7 +86,7 @@ module _ (t : ℕ) where
       let at-visit = at-is-refused .before .before .before .before .before .before in
       let at-operand = at-visit .before in
       let start = at-operand .before .before .before .before .before .before .before in
-      (omega (arith, start .pre .0, c .operand2 .ensures, (start .pre .1 .1 .1 .1 .1 .0)), ((ready-on _ _ _ _ _ _ _ _ _ _ _ _ _ _ _ _ (ready _ _ _ _ _ _ _ _ _ _ (start .pre .1 .0) (start .pre .1 .1 .0) (start .pre .1 .1 .1 .0)) (omega (arith, at-operand .operand .ensures, (start .pre .1 .1 .1 .1 .0))) (at-visit .visit .ensures) (went _ _ _ (at-is-refused .is-refused .ensures) (at-if1 .if1 .left)) (at-visit .visit .kept .1 .0) (at-visit .visit .kept .1 .1 .0)) .laid, (omega (arith, c .operand2 .ensures, (start .pre .1 .1 .1 .1 .1 .0), (start .pre .1 .1 .0)), (sym (at-is-refused .is-refused .ensures) ∙ at-if1 .if1 .left))))
+      (omega (arith, start .pre .0, c .operand2 .ensures, (start .pre .1 .1 .1 .1 .1 .0)), ((first at-if1 .ready) .laid, (omega (arith, c .operand2 .ensures, (start .pre .1 .1 .1 .1 .1 .0), (start .pre .1 .1 .0)), (first at-if1 .going))))
 
   is-refused-requires-2 : lts.Need-is-refused-requires-2 claims (process-two-at t) process-two.Post
   is-refused-requires-2 c κs = search needs
@@ -107,7 +118,19 @@ module _ (t : ℕ) where
       let inputs = inputsIn given call in
       let replies = repliesIn given call in
       let ways = waysBy given dumps call in
-      λ h f l. let m = at-visit .visit .ensures h f (omega (arith, at-operand .operand .ensures, (start .pre .1 .1 .1 .1 .0), l)) in two-stop-2 given inputs replies ways (visitOf given ways f) (start .args .node) (view h given inputs replies (start .args .result .now) (start .args .scratch .now) (walkIn (start .args .counters .now))) _ _ _ _ _ _ _ _ (came-done _ _ _ _ _ _ _ m _ _ (went _ _ _ (at-is-refused .is-refused .ensures) (at-if1 .if1 .left))) _ _ (at-visit2 .visit2 .ensures (m .0) f (omega (arith, at-operand2 .operand2 .ensures, (start .pre .1 .1 .1 .1 .1 .0), l))) (stopped _ _ _ (c .before .is-refused2 .ensures) (c .if2 .taken)) (afterTwo given ways (start .args .pair)) (at-operand .operand .ensures) (at-operand2 .operand2 .ensures)
+      λ h f l. let m = first at-if1 .came h f l in two-stop-2 given inputs replies ways (visitOf given ways f) (start .args .node) (view h given inputs replies (start .args .result .now) (start .args .scratch .now) (walkIn (start .args .counters .now))) _ _ _ _ _ _ _ _ (m .1) _ _ (at-visit2 .visit2 .ensures (m .0) f (omega (arith, at-operand2 .operand2 .ensures, (start .pre .1 .1 .1 .1 .1 .0), l))) (stopped _ _ _ (c .before .is-refused2 .ensures) (c .if2 .taken)) (afterTwo given ways (start .args .pair)) refl (at-operand2 .operand2 .ensures)
+
+  second : (c : lts.Else2 claims (process-two-at t) process-two.Post)
+      → let at-is-refused2 = c .before in let at-visit2 = at-is-refused2 .before .before .before .before .before .before in let at-operand2 = at-visit2 .before in let at-if1 = at-operand2 .before .before .before .before in let at-visit = at-if1 .before .before .before .before .before .before .before in let start = at-visit .before .before .before .before .before .before .before .before in
+      Onward (start .args .given .now) (start .args .dumps .now) (start .args .call .now) (at-visit .visit .last .1 .0) (at-visit .visit .last .1 .1 .0) (at-visit .visit .last .1 .1 .1 .1 .1 .0) (at-visit2 .visit2 .last .1 .0) (at-visit2 .visit2 .last .1 .1 .0) (at-visit2 .visit2 .last .1 .1 .1 .1 .1 .0) (start .args .node) 3 (at-visit2 .visit2 .result)
+  second c =
+      let at-is-refused2 = c .before in
+      let at-visit2 = at-is-refused2 .before .before .before .before .before .before in
+      let at-operand2 = at-visit2 .before in
+      let at-if1 = at-operand2 .before .before .before .before in
+      let at-visit = at-if1 .before .before .before .before .before .before .before in
+      let start = at-visit .before .before .before .before .before .before .before .before in
+      onward _ _ _ _ _ _ _ _ _ _ _ _ _ _ (first at-if1 .ready) (start .pre .1 .1 .1 .1 .1 .0) (at-operand2 .operand2 .ensures) (at-visit2 .visit2 .ensures) (at-is-refused2 .is-refused2 .ensures) (c .if2 .left) (at-visit2 .visit2 .kept .1 .0) (at-visit2 .visit2 .kept .1 .1 .0)
 
   operand-requires-3 : lts.Need-operand-requires-3 claims (process-two-at t) process-two.Post
   operand-requires-3 c κs =
@@ -125,7 +148,7 @@ module _ (t : ℕ) where
       let at-visit = at-is-refused .before .before .before .before .before .before in
       let at-operand = at-visit .before in
       let start = at-operand .before .before .before .before .before .before .before in
-      (((start .pre .1 .1 .0), (start .pre .1 .0) .small), (omega (arith, (start .pre .1 .0) .room, at-visit .visit .kept .1 .0, at-visit2 .visit2 .kept .1 .0), ready-kept _ _ _ _ _ _ _ _ _ _ (ready-on _ _ _ _ _ _ _ _ _ _ _ _ _ _ _ _ (ready-on _ _ _ _ _ _ _ _ _ _ _ _ _ _ _ _ (ready _ _ _ _ _ _ _ _ _ _ (start .pre .1 .0) (start .pre .1 .1 .0) (start .pre .1 .1 .1 .0)) (omega (arith, at-operand .operand .ensures, (start .pre .1 .1 .1 .1 .0))) (at-visit .visit .ensures) (went _ _ _ (at-is-refused .is-refused .ensures) (at-if1 .if1 .left)) (at-visit .visit .kept .1 .0) (at-visit .visit .kept .1 .1 .0)) (omega (arith, at-operand2 .operand2 .ensures, (start .pre .1 .1 .1 .1 .1 .0))) (at-visit2 .visit2 .ensures) (went _ _ _ (at-is-refused2 .is-refused2 .ensures) (at-if2 .if2 .left)) (at-visit2 .visit2 .kept .1 .0) (at-visit2 .visit2 .kept .1 .1 .0))))
+      (((start .pre .1 .1 .0), (start .pre .1 .0) .small), (omega (arith, (start .pre .1 .0) .room, at-visit .visit .kept .1 .0, at-visit2 .visit2 .kept .1 .0), ready-kept _ _ _ _ _ _ _ _ _ _ (second at-if2 .ready)))
 
   after-two-requires : lts.Need-after-two-requires claims (process-two-at t) process-two.Post
   after-two-requires c κs =
@@ -144,8 +167,8 @@ module _ (t : ℕ) where
       let scratch = start .args .scratch .now in
       let inputs = inputsIn given call in
       let replies = repliesIn given call in
-      let both = ready-on _ _ _ _ _ _ _ _ _ _ _ _ _ _ _ _ (ready-on _ _ _ _ _ _ _ _ _ _ _ _ _ _ _ _ (ready _ _ _ _ _ _ _ _ _ _ (start .pre .1 .0) (start .pre .1 .1 .0) (start .pre .1 .1 .1 .0)) (omega (arith, at-operand .operand .ensures, (start .pre .1 .1 .1 .1 .0))) (at-visit .visit .ensures) (went _ _ _ (at-is-refused .is-refused .ensures) (at-if1 .if1 .left)) (at-visit .visit .kept .1 .0) (at-visit .visit .kept .1 .1 .0)) (omega (arith, at-operand2 .operand2 .ensures, (start .pre .1 .1 .1 .1 .1 .0))) (at-visit2 .visit2 .ensures) (went _ _ _ (at-is-refused2 .is-refused2 .ensures) (at-if2 .if2 .left)) (at-visit2 .visit2 .kept .1 .0) (at-visit2 .visit2 .kept .1 .1 .0) in
-      ((room-row _ _ _ _ _ _ (at-put-row .put-row .kept .1 .0) (ready-room _ _ _ _ _ _ _ _ _ _ both)), ((sym (at-is-refused2 .is-refused2 .ensures) ∙ at-if2 .if2 .left), falls-row [] given inputs replies _ _ scratch (walkIn (at-visit2 .visit2 .last .1 .1 .1 .1 .1 .0)) (start .args .pair) (start .args .node) _ _ _ (start .pre .1 .1 .1 .1 .1 .1 .0) (at-put-row .put-row .ensures [] inputs replies scratch _) (ready-falls _ _ _ _ _ _ _ _ _ _ both)))
+      let both = (second at-if2 .ready) in
+      ((room-row _ _ _ _ _ _ (at-put-row .put-row .kept .1 .0) (ready-room _ _ _ _ _ _ _ _ _ _ both)), ((second at-if2 .going), falls-row [] given inputs replies _ _ scratch (walkIn (at-visit2 .visit2 .last .1 .1 .1 .1 .1 .0)) (start .args .pair) (start .args .node) _ _ _ (start .pre .1 .1 .1 .1 .1 .1 .0) (at-put-row .put-row .ensures [] inputs replies scratch _) (ready-falls _ _ _ _ _ _ _ _ _ _ both)))
 
   same-length-5 : lts.Need-same-length-5 claims (process-two-at t) process-two.Post
   same-length-5 c =
@@ -180,7 +203,7 @@ module _ (t : ℕ) where
       let call = start .args .call .now in
       let dumps = start .args .dumps .now in
       let ways = waysBy given dumps call in
-      λ h f l. let m = at-visit .visit .ensures h f (omega (arith, at-operand .operand .ensures, (start .pre .1 .1 .1 .1 .0), l)) in let p = at-visit2 .visit2 .ensures (m .0) f (omega (arith, at-operand2 .operand2 .ensures, (start .pre .1 .1 .1 .1 .1 .0), l)) in (p .0, two-go given ways (visitOf given ways f) (start .args .node) (view h given (inputsIn given call) (repliesIn given call) (start .args .result .now) (start .args .scratch .now) (walkIn (start .args .counters .now))) _ _ _ (came-done _ _ _ _ _ _ _ m _ _ (went _ _ _ (at-is-refused .is-refused .ensures) (at-if1 .if1 .left))) _ _ _ (came-done _ _ _ _ _ _ _ p _ _ (went _ _ _ (at-is-refused2 .is-refused2 .ensures) (at-if2 .if2 .left))) (afterTwo given ways (start .args .pair)) _ _ _ (at-operand .operand .ensures) (at-operand2 .operand2 .ensures) (at-operand3 .operand3 .ensures) (at-put-row .put-row .ensures (p .0) _ _ _ _) (at-after-two .after-two .ensures (p .0) _ dumps))
+      λ h f l. let m = first at-if1 .came h f l in let p = second at-if2 .came (m .0) f l in (p .0, two-go given ways (visitOf given ways f) (start .args .node) (view h given (inputsIn given call) (repliesIn given call) (start .args .result .now) (start .args .scratch .now) (walkIn (start .args .counters .now))) _ _ _ (m .1) _ _ _ (p .1) (afterTwo given ways (start .args .pair)) _ _ _ refl refl (at-operand3 .operand3 .ensures) (at-put-row .put-row .ensures (p .0) _ _ _ _) (at-after-two .after-two .ensures (p .0) _ dumps))
 
   pub proved : {M : Type 1} → lts.Closed claims (process-two-at t) process-two.Post M
   proved = lts.spec claims (process-two-at t) process-two.Post operand-requires visit-requires is-refused-requires same-length same-length-2 returns operand-requires-2 visit-requires-2 is-refused-requires-2 same-length-3 same-length-4 returns-2 operand-requires-3 put-row-requires after-two-requires same-length-5 same-length-6 returns-3
