@@ -1,5 +1,4 @@
 -- The walk down the Writes: what a look at one place says, and the loop's steps.
---     points-fall  the rows that the rules' walk leaves point down
 --     looks-..     a look at the place k, by the words of its row
 --     Searched     the loop's invariant: after l Writes, u of them unsettled, the walk from k on finds the rest with the fuel that is left
 --     search-..    the invariant holds at the start and after each Write that is passed, and gives the answer at the end
@@ -9,7 +8,6 @@ use mathlib.Core.Path.{_≡_, refl, sym, ap, ap₂, _∙_, subst}
 use mathlib.Core.Bool.{true, false, cond}
 use mathlib.Core.Option.{Option, none, some}
 use mathlib.Core.List.{List}
-use lib.ListN.{length}
 use native.Mathlib.Nat.{sub-zero}
 use native.Mathlib.Omega.{arith}
 use borrow.Author.Tests.{eq-eqb, ne-eqb}
@@ -17,7 +15,6 @@ use Rattle.btor.specs.Operators.{Reading, rust, standard}
 use Rattle.rules.specs.Table.{Write, Node, is}
 use Rattle.rules.specs.Fold.{constOf}
 use Rattle.rules.specs.Memory.{Found, lost, hit, past, meetUnsettled, meet, lookAt, find}
-use Rattle.rules.proofs.Search.{Points}
 use Rattle.rules.proofs.Steps.{after, same-found, after-none}
 use Rattle.rules.specs.Sections.{wordOf}
 use Rattle.optimize.specs.View.{rowsOf}
@@ -26,10 +23,6 @@ use Rattle.optimize.specs.declared.memory.Look.{Look}
 use Rattle.optimize.specs.declared.memory.Look.the-variants.{End, Hit, Stop, Settled, Unsettled}
 use Rattle.optimize.proofs.Views.{row-below}
 use Rattle.optimize.proofs.RowLaws.{write-row, no-write-row, no-write-past}
-
--- ---- rows of the rules' walk fall
-pub points-fall : (t : List Node) (n made : ℕ) (R : List ℕ) → length t ≡ n → Points t (rowsOf n made R) made → Falls n made R
-points-fall t n made R e p = record { memory = λ k l w h. p .memory k w (subst (λ (j : ℕ). rowsOf n made R k .a < j) (sym e) h) }
 
 -- ---- one place
 module _ (how : Reading) (rows : ℕ → Node) (x k : ℕ) (go : ℕ → Found) where
