@@ -1,5 +1,6 @@
 #!/bin/sh
-# The gate's own logic, tried in a tree with a copy of .ci/run where rt, cc, cargo and every part are small scripts that stand in.
+# The gate's own logic, tried in a tree with a copy of .ci/run where rt, cc, cargo and every part are small scripts that stand in; and that of the
+# edits (tests/edits.sh), in a tree of two crates with an rt that stands in.
 #     tests/gate.sh        a line for each thing tried; the exit status is 0 if none is wrong
 # shellcheck disable=SC2016
 set -u
@@ -134,6 +135,69 @@ fails 'no rt, and the skip is asked for' "'rt'" GEMTWEED_SKIP_LIBRARY=1
 fails 'the temporary folder is no folder' 'no folder' TMPDIR="$bin/rt"
 rm "$bin/mktemp"
 fails 'no mktemp' 'no folder'
+
+# The edits' own logic: a tree with the crate top, built on low, and one edit of it. The rt that stands in refuses what says two at what the file
+# place names, and says what the file proved has of anything else.
+edits_tree() {
+    rm -rf "$tree"
+    mkdir -p "$tree/tests" "$tree/crates/low/src" "$tree/crates/top/src" "$tree/crates/top/edits" "$tree/target/rlib/low.rlib" "$tree/target/stamp"
+    cp tests/edits.sh "$tree/tests/"
+    printf 'low:\ntop: low\n' >"$tree/crates.txt"
+    echo one >"$tree/crates/top/src/lib.rt"
+    printf 'refused: fn top::f at returns\nfile: src/lib.rt\nold: one\nnew: two\n' >"$tree/crates/top/edits/wrong.edit"
+    echo low >"$tree/target/stamp/low"
+    echo returns >"$work/place"
+    echo logic=proved >"$work/proved"
+    script "$bin/rt" '[ "$1" = dev ] || exit 0
+        [ -f target/stamp/low ] || { echo "low is not there"; exit 2; }
+        mkdir -p "target/inc/$2" && touch "target/inc/$2/checked"
+        if ! grep -q two "crates/$2/src/lib.rt"; then cat '"'$work/proved'"'; grep -q =proved '"'$work/proved'"'; exit; fi
+        echo "fn top::f: no proof: search does not close \`$(cat '"'$work/place'"')\`"
+        echo logic=not-proved
+        exit 1'
+}
+
+# What the edits say last, under a limit of time: they must end.
+edits() { # WHAT STATUS LAST [NAME=VALUE]...
+    what=$1 expected=$2 words=$3 right=no
+    shift 3
+    env "$@" PATH="$bin:$PATH" TMPDIR="$work/tmp" timeout 60 "$tree/tests/edits.sh" "$work/edits" >"$work/told" 2>&1
+    status=$? ran=edits last=$(tail -n 1 "$work/told")
+    [ "$status" -ne "$expected" ] || [ "$last" != "$words" ] || right=yes
+    tried=$((tried + 1))
+    if [ "$right" = yes ]; then
+        echo "gate: $what: exit status $status"
+    else
+        wrong=$((wrong + 1))
+        echo "gate: $what: WRONG: exit status $status; the edits said"
+        cat "$work/told"
+    fi
+    rm -rf "$work/edits" "$work/ended"
+    edits_tree
+}
+
+edits_tree
+edits 'an edit is refused at its place' 0 'edits: 1 refused'
+touch "$work/ended"
+edits 'the same, beside a run that has ended with the library' 0 'edits: 1 refused' BESIDE="$work/ended"
+echo requires >"$work/place"
+edits 'an edit is refused elsewhere' 1 'edits: 0 refused, 1 FAILED'
+sed 's/new: two/new: three/' "$tree/crates/top/edits/wrong.edit" >"$work/edit" && mv "$work/edit" "$tree/crates/top/edits/wrong.edit"
+edits 'an edit is not refused' 1 'edits: 0 refused, 1 FAILED'
+sed 's/old: one/old: four/' "$tree/crates/top/edits/wrong.edit" >"$work/edit" && mv "$work/edit" "$tree/crates/top/edits/wrong.edit"
+edits 'an edit does not fit' 1 'edits: 0 refused, 1 FAILED'
+echo logic=not-proved >"$work/proved"
+edits 'the crate is not proved as it stands' 1 'edits: 0 refused, 1 FAILED'
+rm "$tree/target/stamp/low"
+touch "$work/ended"
+edits 'the run beside ends without the library' 1 'edits: 0 refused, 1 FAILED' BESIDE="$work/ended"
+rm "$tree/target/stamp/low"
+(sleep 2 && echo low >"$tree/target/stamp/low") &
+edits 'the run beside proves the library later' 0 'edits: 1 refused' BESIDE="$work/ended"
+mkdir -p "$tree/crates/stray/edits"
+edits 'edits of a crate that is not listed' 1 'edits: crates/stray/edits belongs to no crate of crates.txt'
+rm -r "$tree/crates/top/edits"
+edits 'no crate has edits' 1 'edits: no crate has edits'
 
 echo "gate: $tried tried, $wrong wrong"
 [ "$wrong" -eq 0 ]
