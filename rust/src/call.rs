@@ -4,7 +4,7 @@ use crate::ffi;
 use crate::house::{LONGEST_NAME, MOST_NODES};
 use crate::refusal::Refusal;
 
-/// The stack given for each node of a table, in bytes: some three times what was measured (docs/PERFORMANCE.md, "Stack").
+/// The stack given for each node of a table, in bytes: some five times what was measured (docs/PERFORMANCE.md, "Stack").
 pub const STACK_PER_NODE: usize = 1024;
 
 /// The stack given besides, in bytes.
