@@ -183,8 +183,9 @@ try_edits() { # FOLDER CRATE
     done
 }
 
-# Proves the crates that nobody has taken, each before its edits; then tries the edits that are left, once the other folder has proved its crates.
-work_in() { # FOLDER
+# Proves the crates that nobody has taken, each before its edits; then tries the edits that are left, once the other folder has proved its crates,
+# or has ended without.
+work_in() { # FOLDER OTHER
     for crate in $crates; do
         if take "$work/told/$crate"; then
             seed "$1" "$crate"
@@ -195,7 +196,7 @@ work_in() { # FOLDER
         try_edits "$1" "$crate"
     done
     for crate in $crates; do
-        until [ -f "$work/told/$crate.seeded" ]; do sleep 1; done
+        until [ -f "$work/told/$crate.seeded" ] || [ -f "$work/told/$2.ended" ]; do sleep 1; done
         try_edits "$1" "$crate"
     done
 }
@@ -235,9 +236,13 @@ if [ -z "${BESIDE:-}" ]; then
     rt check $below >"$work/below.log" 2>&1 || { tail -n 5 "$work/below.log"; give_up "a library below is not proved"; }
 fi
 
-# Two edits at a time.
-work_in "$work/two" &
-work_in "$work/one"
+# Two edits at a time, each in a shell of its own, so that its end is known however it comes.
+{
+    (work_in "$work/two" one)
+    touch "$work/told/two.ended"
+} &
+(work_in "$work/one" two)
+touch "$work/told/one.ended"
 wait
 
 refused=0 failed=0

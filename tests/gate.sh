@@ -50,8 +50,8 @@ run() { # [NAME=VALUE]...
     last=$(tail -n 1 "$work/told")
 }
 
-# A line about what was tried, and all that the gate said if it was wrong; then a tree as before.
-report() { # WHAT RIGHT
+# A line about what was tried, and all that was said if it was wrong.
+tell() { # WHAT RIGHT
     tried=$((tried + 1))
     if [ "$2" = yes ]; then
         echo "gate: $1: exit status $status"
@@ -60,6 +60,11 @@ report() { # WHAT RIGHT
         echo "gate: $1: WRONG: exit status $status; it ran $ran, and said"
         cat "$work/told"
     fi
+}
+
+# The same of the gate; then a tree as before.
+report() { # WHAT RIGHT
+    tell "$1" "$2"
     fresh
 }
 
@@ -164,14 +169,7 @@ edits() { # WHAT STATUS LAST [NAME=VALUE]...
     env "$@" PATH="$bin:$PATH" TMPDIR="$work/tmp" timeout 60 "$tree/tests/edits.sh" "$work/edits" >"$work/told" 2>&1
     status=$? ran=edits last=$(tail -n 1 "$work/told")
     [ "$status" -ne "$expected" ] || [ "$last" != "$words" ] || right=yes
-    tried=$((tried + 1))
-    if [ "$right" = yes ]; then
-        echo "gate: $what: exit status $status"
-    else
-        wrong=$((wrong + 1))
-        echo "gate: $what: WRONG: exit status $status; the edits said"
-        cat "$work/told"
-    fi
+    tell "$what" "$right"
     rm -rf "$work/edits" "$work/ended"
     edits_tree
 }
@@ -194,6 +192,8 @@ edits 'the run beside ends without the library' 1 'edits: 0 refused, 1 FAILED' B
 rm "$tree/target/stamp/low"
 (sleep 2 && echo low >"$tree/target/stamp/low") &
 edits 'the run beside proves the library later' 0 'edits: 1 refused' BESIDE="$work/ended"
+script "$bin/rt" '[ "$1" != dev ] || kill -9 $PPID'
+edits 'who proves the crate is killed' 1 'edits: 0 refused, 1 FAILED'
 mkdir -p "$tree/crates/stray/edits"
 edits 'edits of a crate that is not listed' 1 'edits: crates/stray/edits belongs to no crate of crates.txt'
 rm -r "$tree/crates/top/edits"

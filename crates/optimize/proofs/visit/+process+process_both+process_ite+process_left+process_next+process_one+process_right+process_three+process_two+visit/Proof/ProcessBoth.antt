@@ -147,14 +147,6 @@ module _ (t : ℕ) where
   after-ite-requires c κs =
       let at-put-row = c .before .before .before .before .before in
       let at-if2 = at-put-row .before .before in
-      let at-is-refused2 = at-if2 .before in
-      let at-visit2 = at-is-refused2 .before .before .before .before .before .before in
-      let at-operand2 = at-visit2 .before in
-      let at-if1 = at-operand2 .before .before .before .before in
-      let at-is-refused = at-if1 .before in
-      let at-visit = at-is-refused .before .before .before .before .before .before in
-      let at-operand = at-visit .before in
-      let start = at-operand .before .before .before .before .before .before .before in
       ((room-row _ _ _ _ _ _ (at-put-row .put-row .kept .1 .0) (ready-room _ _ _ _ _ _ _ _ _ _ (second at-if2 .ready))), (second at-if2 .going))
 
   same-length-5 : lts.Need-same-length-5 claims (process-both-at t) process-both.Post

@@ -82,10 +82,6 @@ module _ (t : ℕ) where
   get-constant-requires : lts.Need-get-constant-requires claims (process-ite-at t) process-ite.Post
   get-constant-requires c κs =
       let at-if1 = c .before .before in
-      let at-is-refused = at-if1 .before in
-      let at-visit = at-is-refused .before .before .before .before .before .before in
-      let at-operand = at-visit .before in
-      let start = at-operand .before .before .before .before .before .before .before in
       let k = (first at-if1 .ready) .laid in ((omega (arith, k .whole), k .small), (k .room, omega (arith, k .few)))
 
   choice-of-requires : lts.Need-choice-of-requires claims (process-ite-at t) process-ite.Post

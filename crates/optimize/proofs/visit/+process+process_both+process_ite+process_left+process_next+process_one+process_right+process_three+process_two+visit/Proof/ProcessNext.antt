@@ -86,7 +86,6 @@ module _ (t : ℕ) where
       let at-visit = at-is-refused .before .before .before .before .before .before in
       let at-operand = at-visit .before .before .before .before in
       let start = at-operand .before .before .before .before in
-      let operands = start .pre .1 .1 .1 .1 in
       (omega (arith, start .pre .0, c .operand2 .ensures, (start .pre .1 .1 .1 .1 .1 .0)), ((state at-if1 .ready) .laid, (omega (arith, c .operand2 .ensures, (start .pre .1 .1 .1 .1 .1 .0), (start .pre .1 .1 .0)), (state at-if1 .going))))
 
   is-refused-requires-2 : lts.Need-is-refused-requires-2 claims (process-next-at t) process-next.Post
@@ -113,7 +112,6 @@ module _ (t : ℕ) where
       let at-visit = at-is-refused .before .before .before .before .before .before in
       let at-operand = at-visit .before .before .before .before in
       let start = at-operand .before .before .before .before in
-      let operands = start .pre .1 .1 .1 .1 in
       let given = start .args .given .now in
       let call = start .args .call .now in
       let dumps = start .args .dumps .now in
@@ -155,22 +153,12 @@ module _ (t : ℕ) where
       let at-visit = at-is-refused .before .before .before .before .before .before in
       let at-operand = at-visit .before .before .before .before in
       let start = at-operand .before .before .before .before in
-      let operands = start .pre .1 .1 .1 .1 in
       (((start .pre .1 .1 .0), (start .pre .1 .0) .small), (omega (arith, (start .pre .1 .0) .room, at-visit .visit .kept .1 .0, at-visit2 .visit2 .kept .1 .0), ready-kept _ _ _ _ _ _ _ _ _ _ (value at-if2 .ready)))
 
   settle-requires : lts.Need-settle-requires claims (process-next-at t) process-next.Post
   settle-requires c κs =
       let at-put-row = c .before .before .before .before .before in
       let at-if2 = at-put-row .before .before .before .before in
-      let at-is-refused2 = at-if2 .before in
-      let at-visit2 = at-is-refused2 .before .before .before .before .before .before in
-      let at-operand2 = at-visit2 .before in
-      let at-if1 = at-operand2 .before .before .before .before in
-      let at-is-refused = at-if1 .before in
-      let at-visit = at-is-refused .before .before .before .before .before .before in
-      let at-operand = at-visit .before .before .before .before in
-      let start = at-operand .before .before .before .before in
-      let operands = start .pre .1 .1 .1 .1 in
       let q = ready-room _ _ _ _ _ _ _ _ _ _ (value at-if2 .ready) in ((omega (arith, q .whole), q .small, q .inside), ((omega (arith, q .room, at-put-row .put-row .kept .1 .0), omega (arith, q .asks)), (q .few, (value at-if2 .going))))
 
   same-length-5 : lts.Need-same-length-5 claims (process-next-at t) process-next.Post
@@ -203,7 +191,6 @@ module _ (t : ℕ) where
       let at-visit = at-is-refused .before .before .before .before .before .before in
       let at-operand = at-visit .before .before .before .before in
       let start = at-operand .before .before .before .before in
-      let operands = start .pre .1 .1 .1 .1 in
       let given = start .args .given .now in
       let call = start .args .call .now in
       let dumps = start .args .dumps .now in

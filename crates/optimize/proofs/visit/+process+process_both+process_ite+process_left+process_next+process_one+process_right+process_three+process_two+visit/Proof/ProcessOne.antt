@@ -95,10 +95,6 @@ module _ (t : ℕ) where
   after-one-requires c κs =
       let at-put-row = c .before .before .before .before .before in
       let at-if1 = at-put-row .before .before .before .before in
-      let at-is-refused = at-if1 .before in
-      let at-visit = at-is-refused .before .before .before .before .before .before in
-      let at-operand = at-visit .before in
-      let start = at-operand .before .before .before .before .before .before .before in
       ((room-row _ _ _ _ _ _ (at-put-row .put-row .kept .1 .0) (ready-room _ _ _ _ _ _ _ _ _ _ (first at-if1 .ready))), (first at-if1 .going))
 
   same-length-3 : lts.Need-same-length-3 claims (process-one-at t) process-one.Post

@@ -90,10 +90,6 @@ module _ (t : ℕ) where
   settle-requires c κs =
       let at-put-row = c .before .before .before .before .before in
       let at-if1 = at-put-row .before .before .before in
-      let at-is-refused = at-if1 .before in
-      let at-visit = at-is-refused .before .before .before .before .before .before in
-      let at-operand = at-visit .before in
-      let start = at-operand .before .before .before .before .before .before .before in
       let q = (ready-room _ _ _ _ _ _ _ _ _ _ (first at-if1 .ready)) in ((omega (arith, q .whole), q .small, q .inside), ((omega (arith, q .room, at-put-row .put-row .kept .1 .0), omega (arith, q .asks)), (q .few, (first at-if1 .going))))
 
   same-length-3 : lts.Need-same-length-3 claims (process-right-at t) process-right.Post

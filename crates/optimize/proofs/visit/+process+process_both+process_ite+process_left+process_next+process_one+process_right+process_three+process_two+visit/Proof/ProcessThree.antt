@@ -220,18 +220,6 @@ module _ (t : ℕ) where
   settle-requires c κs =
       let at-put-row = c .before .before .before .before .before in
       let at-if3 = at-put-row .before .before in
-      let at-is-refused3 = at-if3 .before in
-      let at-visit3 = at-is-refused3 .before .before .before .before .before .before in
-      let at-operand3 = at-visit3 .before in
-      let at-if2 = at-operand3 .before .before .before .before in
-      let at-is-refused2 = at-if2 .before in
-      let at-visit2 = at-is-refused2 .before .before .before .before .before .before in
-      let at-operand2 = at-visit2 .before in
-      let at-if1 = at-operand2 .before .before .before .before in
-      let at-is-refused = at-if1 .before in
-      let at-visit = at-is-refused .before .before .before .before .before .before in
-      let at-operand = at-visit .before in
-      let start = at-operand .before .before .before .before .before .before .before in
       let q = (ready-room _ _ _ _ _ _ _ _ _ _ (third at-if3 .ready)) in ((omega (arith, q .whole), q .small, q .inside), ((omega (arith, q .room, at-put-row .put-row .kept .1 .0), omega (arith, q .asks)), (q .few, (third at-if3 .going))))
 
   same-length-7 : lts.Need-same-length-7 claims (process-three-at t) process-three.Post
