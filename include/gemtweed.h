@@ -26,7 +26,7 @@ extern "C" {
 
 /* The words of a node, and the mode above which none is taken. */
 #define GEMTWEED_ROW_WIDTH 6
-#define GEMTWEED_HIGHEST_MODE 15
+#define GEMTWEED_HIGHEST_MODE 7
 
 /* The limits of the sections. */
 #define GEMTWEED_MOST_NODES 4096
@@ -41,10 +41,8 @@ extern "C" {
 #define GEMTWEED_BAD_ROOM 5
 #define GEMTWEED_LEAST_ROOM 22
 
-/* What a mode adds up. With GEMTWEED_STANDARD operators and reads are those of SMT-LIB and BTOR2: Div by 0 gives 2^64-1 for a dividend below
- * 2^63, else 1; Div of 2^63 by 2^64-1 gives 2^63; Rem by 0 gives the dividend; and a Read gives up at a Write whose address is no constant,
- * so that GEMTWEED_TALLY_UNSETTLED_PASSED is 0. Without it they are the Rust's. */
-enum { GEMTWEED_MINIMISE = 1, GEMTWEED_TERMINATE = 2, GEMTWEED_ONE_QUERY = 4, GEMTWEED_STANDARD = 8 };
+/* What a mode adds up. */
+enum { GEMTWEED_MINIMISE = 1, GEMTWEED_TERMINATE = 2, GEMTWEED_ONE_QUERY = 4 };
 
 /* Sorts, the second word of a node. */
 enum { GEMTWEED_BIT = 1, GEMTWEED_WORD = 2, GEMTWEED_MEMORY = 3, GEMTWEED_BYTE = 11 };
@@ -91,7 +89,7 @@ enum {
     GEMTWEED_TALLY_INPUTS_TAKEN = 0,
     GEMTWEED_TALLY_REPLIES_TAKEN,
     GEMTWEED_TALLY_WRITES_LOOKED_AT,
-    GEMTWEED_TALLY_UNSETTLED_PASSED, /* if this is not 0, values are not promised; it is 0 in every mode with GEMTWEED_STANDARD */
+    GEMTWEED_TALLY_UNSETTLED_PASSED, /* if this is not 0, values are not promised */
     GEMTWEED_TALLY_VERDICT,
     GEMTWEED_TALLY_FIGURES
 };

@@ -1,13 +1,11 @@
 # pick.py CASES ANSWERS COUNT QUOTA: the line numbers, from 0, of cases that together show every feature of a case and its answer:
-# kinds, sorts, modes, refusals, ways of replacement, questions with their replies, tallies, and where the readings part. Short cases first,
-# round after round, until COUNT are picked or each feature has been shown QUOTA times.
+# kinds, sorts, modes, refusals, ways of replacement, questions with their replies, tallies. Short cases first, round after round,
+# until COUNT are picked or each feature has been shown QUOTA times.
 import pathlib
 import sys
 
 sys.path.insert(0, str(pathlib.Path(__file__).resolve().parent.parent / "tests"))
-from house import CONST, DIV, READ, REM, RESULT_WIDTHS, ROW_WIDTH, TABLE_WIDTHS, WRITE, cut  # noqa: E402
-
-STANDARD = 8  # the part of a mode
+from house import RESULT_WIDTHS, ROW_WIDTH, TABLE_WIDTHS, cut  # noqa: E402
 
 cases, answers = (open(f).read().splitlines() for f in sys.argv[1:3])
 count, quota = int(sys.argv[3]), int(sys.argv[4])
@@ -19,23 +17,6 @@ def words(numbers, widths):
 def stands_for(replacement, n):
     return "node" if replacement < n else "shared" if replacement < n + 2 else "made"
 
-# where the readings may part: the operands of each Div and Rem that was replaced, where its divisor is 0 or -1; and for each Read whether it was
-# replaced, with the first writes below it, as the rows are left
-def partings(rows, made, replaced):
-    rows = [rows[i : i + ROW_WIDTH] for i in range(0, len(rows), ROW_WIDTH)]
-    numbers = {k: row[2] for k, row in enumerate(rows) if row[0] == CONST} | dict(enumerate(made[1::2], len(rows)))
-    for node, (kind, _, a, b, _, _) in enumerate(rows):
-        if kind in (DIV, REM) and node in replaced and numbers[b] in (0, 2**64 - 1):
-            left = numbers[a]
-            yield kind, numbers[b] == 0, left == 0, left < 2**63, left == 2**63
-        if kind == READ and b in numbers:
-            below = []
-            while rows[a][0] == WRITE and len(below) < 2:
-                held = numbers.get(rows[a][3])
-                below.append("unsettled" if held is None else "hit" if held == numbers[b] else "other")
-                a = rows[a][2]
-            yield kind, node in replaced, *below
-
 def features(case, answer):
     mode, *numbers = map(int, case.split())
     nodes, sequentials, initial, later, inputs, replies = words(numbers, TABLE_WIDTHS)
@@ -46,7 +27,6 @@ def features(case, answer):
         return found | {("refused", *rest[:2])}
     rows, made, replaced, kept_s, kept_i, kept_l, left, asked, tally = words([int(w) for w in rest], RESULT_WIDTHS)
     found.add(("accepted", mode))
-    found |= {("parting", mode & STANDARD, *parting) for parting in partings(rows, made, replaced[0::2])}
     found |= {("replaced", kinds[k], stands_for(r, len(kinds))) for k, r in zip(replaced[0::2], replaced[1::2])}
     found |= {("question", q, r) for q, r in zip(asked[0::4], asked[3::4])}
     found |= {("tally", i, min(x, 4)) for i, x in enumerate(tally)}

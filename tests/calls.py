@@ -8,17 +8,15 @@
 Nothing here folds a table: every answer is written beside its case. A case named wrong_answer_.. is one of the others with an
 answer that it does not have, and must be counted wrong.
 """
-from house import (ADD, AND, BAD, BIT, BYTE, BYTES, CONST, DIV, DIVU, EQ, EXT, HIGHEST_MODE, INPUT, ITE, LARGEST, MEMORY,
+from house import (ADD, AND, BAD, BIT, BYTE, BYTES, CONST, DIV, EQ, EXT, HIGHEST_MODE, INPUT, ITE, LARGEST, MEMORY,
                    MOST_ENTRIES, MOST_INPUTS, MOST_NAMES, MOST_NODES, MOST_REPLIES, MUL, NEXT, NOT, OR, READ, REM, ROW_WIDTH,
-                   SLL, SRL, STATE, SUB, TABLE_WIDTHS, ULT, WORD, WRITE, cut, names_count, row)
+                   SLL, STATE, SUB, TABLE_WIDTHS, ULT, WORD, WRITE, cut, names_count, row)
 from limits import (EXAMPLE, HOLD_END, LEAST, MOST, ROOM, Group, answers, flat, in_text_form, main, names_of, need, node,
                     sections, size, text, told, wrong)
 
 IMPL, WITH_SOLVER, WITH_INPUT = range(3)
 ENTRIES = {'impl': IMPL, 'with_solver': WITH_SOLVER, 'with_input': WITH_INPUT}
-WITH_A_MODE = {'impl': IMPL, 'with_solver': WITH_SOLVER}
-MINIMISE, TERMINATE, ONE_QUERY, STANDARD = 1, 2, 4, 8
-MODES = range(HIGHEST_MODE + 1)
+MINIMISE, TERMINATE, ONE_QUERY = 1, 2, 4
 NOT_ONE_QUERY, FOUND, NOT_FOUND, REMOVED_ALL = range(4)
 ALWAYS_TRUE, ALWAYS_FALSE, EQUAL, SATISFIABLE, SEVERAL_FALSE = range(1, 6)
 
@@ -53,11 +51,6 @@ def left(nodes, made=(), replaced=(), sequentials=(), bads=(), later=(), inputs=
     return words + entries(questions, 4) + [5, taken, used, looked, passed, verdict]
 
 
-def removed_all(mode):
-    """The verdict where no initial bad is left, or none was given."""
-    return REMOVED_ALL if mode & ONE_QUERY else NOT_ONE_QUERY
-
-
 # --- the worked example
 
 whole('the_worked_example', sections(EXAMPLE, bads=[3], inputs=[12]),
@@ -80,12 +73,12 @@ whole('the_worked_example_at_11_under_terminate', sections(EXAMPLE, bads=[3], in
 # --- two constants: 0 and 1 fold in 2, which is the next value of 3
 
 
-def folded(name, kind, x, y, value, sort=WORD, mode=0, by=ENTRIES):
+def folded(name, kind, x, y, value, sort=WORD):
     nodes = [node(CONST, sort, x), node(CONST, sort, y), node(kind, sort, 0, 1), node(STATE, sort, 0, 1)]
-    for entry_name, entry in by.items():
+    for entry_name, entry in ENTRIES.items():
         whole('%s_by_%s' % (name, entry_name), sections(nodes + [node(NEXT, sort, 3, 2)], [4]),
               left(nodes + [node(NEXT, sort, 3, 7)], made=[(sort, value)], replaced=[(2, 7)], sequentials=[4]),
-              mode=mode, entry=entry)
+              entry=entry)
 
 
 folded('add_most_and_1_is_0', ADD, MOST, 1, 0)
@@ -113,7 +106,7 @@ for x, holds in ((12, 0), (11, 1), (13, 0)):
         whole('ult_%d_and_12_by_%s' % (x, entry_name), sections(nodes + [node(BAD, BIT, 2)], later=[3]),
               left(nodes + [node(BAD, BIT, 4 + holds)], replaced=[(2, 4 + holds)], later=[3] * holds), entry=entry)
 
-# --- write 7 at 5, write 9 at an Input, read 5: the 7; by the standard the Read gives up at the 9
+# --- write 7 at 5, write 9 at an Input, read 5
 
 MEMORY_NODES = [
     node(INPUT, MEMORY, name=1), # 0
@@ -127,25 +120,10 @@ MEMORY_NODES = [
     node(STATE, WORD, 1, 1),     # 8
 ]
 A_NAME = names_of([97])
-# what stands for the Read, and what its walk leaves
-READ_5 = {0: (2, {'replaced': [(7, 2)], 'looked': 2, 'passed': 1}), STANDARD: (7, {'looked': 1})}
-NEXT_IS_READ = sections(MEMORY_NODES + [node(NEXT, WORD, 8, 7)], [9])
-for mode in MODES:
-    stands, walk = READ_5[mode & STANDARD]
-    for entry_name, entry in WITH_A_MODE.items():
-        whole('read_5_below_an_unsettled_write_in_mode_%d_by_%s' % (mode, entry_name), NEXT_IS_READ,
-              left(MEMORY_NODES + [node(NEXT, WORD, 8, stands)], sequentials=[9], verdict=removed_all(mode), **walk), A_NAME,
-              mode, entry)
-    # a Bad on whether it is the Input
-    whole('bad_on_read_5_in_mode_%d' % mode,
-          sections(MEMORY_NODES[:8] + [node(EQ, BIT, 7, 4), node(BAD, BIT, 8)], bads=[9]),
-          left(MEMORY_NODES[:8] + [node(EQ, BIT, stands, 4), node(BAD, BIT, 8)], bads=[9],
-               questions=([(ALWAYS_TRUE, 8, 0, 0), (ALWAYS_FALSE, 8, 0, 0)] if mode & MINIMISE else [])
-               + [(ALWAYS_FALSE, 9, 0, 0) if mode & ONE_QUERY else (SATISFIABLE, 8, 0, 0)],
-               verdict=FOUND if mode & ONE_QUERY else NOT_ONE_QUERY, **walk), A_NAME, mode)
-whole('read_5_below_an_unsettled_write_by_with_input', NEXT_IS_READ,
-      left(MEMORY_NODES + [node(NEXT, WORD, 8, 2)], replaced=[(7, 2)], sequentials=[9], looked=2, passed=1), A_NAME,
-      entry=WITH_INPUT)
+for entry_name, entry in ENTRIES.items():
+    whole('read_5_past_an_unsettled_write_by_%s' % entry_name, sections(MEMORY_NODES + [node(NEXT, WORD, 8, 7)], [9]),
+          left(MEMORY_NODES + [node(NEXT, WORD, 8, 2)], replaced=[(7, 2)], sequentials=[9], looked=2, passed=1), A_NAME,
+          entry=entry)
 
 # --- a byte's width
 
@@ -191,9 +169,10 @@ for entry_name, entry in ENTRIES.items():
     whole('empty_scratch_0_by_%s' % entry_name, EMPTY, refused(12, 8, 1), entry=entry, result=ROOM, scratch=0)
     whole('no_words_by_%s' % entry_name, [], refused(1, 1, 0), entry=entry, result=40, scratch=40)
     whole('no_names_by_%s' % entry_name, EMPTY, refused(1, 7, 0), [], entry=entry, result=40, scratch=40)
-for entry_name, entry in WITH_A_MODE.items():
-    for mode in MODES:
-        whole('empty_mode_%d_by_%s' % (mode, entry_name), EMPTY, left([], verdict=removed_all(mode)), mode=mode, entry=entry)
+MODES = range(HIGHEST_MODE + 1)
+for mode in MODES:
+    whole('empty_mode_%d' % mode, EMPTY, left([], verdict=REMOVED_ALL if mode & ONE_QUERY else NOT_ONE_QUERY), mode=mode)
+for entry_name, entry in (('impl', IMPL), ('with_solver', WITH_SOLVER)):
     whole('mode_%d_by_%s' % (HIGHEST_MODE + 1, entry_name), EMPTY, refused(1, 0, 0), mode=HIGHEST_MODE + 1, entry=entry)
     whole('mode_most_by_%s' % entry_name, EMPTY, refused(1, 0, 0), mode=MOST, entry=entry)
 
@@ -346,7 +325,7 @@ whole('every_count_at_its_limit',
 # --- refusals met in the walk, after much was written
 
 CHAIN_THEN_TRUE = [A_BIT, node(NOT, BIT, (0, 1), times=N - 4), node(BAD, BIT, N - 4), node(CONST, BIT, 1), node(BAD, BIT, N - 2)]
-for entry_name, entry in WITH_A_MODE.items():
+for entry_name, entry in (('impl', IMPL), ('with_solver', WITH_SOLVER)):
     whole('bad_always_true_after_%d_nodes_by_%s' % (N - 2, entry_name),
           sections(CHAIN_THEN_TRUE, bads=[N - 3], later=[N - 1]), refused(13, 4, 0), A_NAME, TERMINATE, entry)
 whole('bad_always_true_after_%d_nodes_without_terminate' % (N - 2), sections(CHAIN_THEN_TRUE, bads=[N - 3], later=[N - 1]),
@@ -434,7 +413,8 @@ def next_kept(taken, init):
 for mode in MODES:
     whole('kept_next_visits_its_state_in_mode_%d' % mode, sections(KEPT, [5], inputs=[7]),
           left(next_kept(8, 2), made=[(WORD, 7)], replaced=[(1, 8), (4, 7)], sequentials=[5],
-               questions=OPEN_INIT if mode & MINIMISE else [], taken=1, verdict=removed_all(mode)), A_NAME, mode)
+               questions=OPEN_INIT if mode & MINIMISE else [], taken=1,
+               verdict=REMOVED_ALL if mode & ONE_QUERY else NOT_ONE_QUERY), A_NAME, mode)
 whole('kept_next_with_an_init_that_is_true', sections(KEPT, [5], inputs=[7], replies=[1]),
       left(next_kept(8, 7), made=[(WORD, 7)], replaced=[(1, 8), (2, 7), (4, 7)], sequentials=[5],
            questions=[(ALWAYS_TRUE, 2, 0, 1)], taken=1, used=1), A_NAME, MINIMISE)
@@ -663,149 +643,6 @@ whole('nodes_%d_byte_ands_all_fold' % N,
       left(MADE_1 + [node(AND, BYTE, (N + 2, 1), 0, times=N - 5), node(EQ, BIT, N + N - 3, 0), node(BAD, BIT, N)],
            made=[Group(N - 4, BYTE, 1)], replaced=[Group(N - 4, (2, 1), (N + 2, 1)), (N - 2, N)]))
 
-# --- the standard's operators beside the Rust's: the value in mode 0, and in mode 8
-
-for kind_name, kind, x, y, rust, standard in (
-        *(('div', DIV, x, 0, 2**63 - 1, MOST) for x in (0, 5, 2**63 - 1)),
-        *(('div', DIV, x, 0, 2**63 - 1, 1) for x in (2**63, 2**64 - 5, MOST)),
-        ('div', DIV, 2**63, MOST, 2**63 - 1, 2**63),
-        *(('rem', REM, x, 0, MOST, x) for x in (0, 5, 2**63 - 1, 2**63, 2**64 - 5, MOST)),
-        # these are the same in both
-        *((*case, case[-1]) for case in (
-            ('div', DIV, 2**63, 2**64 - 2, 2**62), ('div', DIV, 2**63 + 1, MOST, 2**63 - 1),
-            ('div', DIV, 2**63 - 1, MOST, 2**63 + 1), ('div', DIV, 2**63, 1, 2**63), ('div', DIV, 0, MOST, 0),
-            ('div', DIV, 2**64 - 7, 2, 2**64 - 3), ('div', DIV, 7, 2**64 - 2, 2**64 - 3), ('div', DIV, 5, 1, 5),
-            ('rem', REM, 2**63, MOST, 2**63), ('rem', REM, 2**64 - 7, 2, 1), ('rem', REM, 7, 2**64 - 2, 7),
-            ('rem', REM, 5, 1, 0), *(('divu', DIVU, x, 0, MOST) for x in (0, 5, 2**63, MOST)),
-            ('divu', DIVU, 2**63, MOST, 0), ('sll', SLL, 1, 63, 2**63), ('sll', SLL, 1, 64, 0),
-            ('srl', SRL, MOST, 63, 1), ('srl', SRL, MOST, 64, 0), ('add', ADD, MOST, 1, 0), ('sub', SUB, 0, 1, MOST),
-            ('mul', MUL, 2**32, 2**32, 0)))):
-    for mode, value in ((0, rust), (STANDARD, standard)):
-        folded('%s_%d_and_%d_in_mode_%d' % (kind_name, x, y, mode), kind, x, y, value, mode=mode, by=WITH_A_MODE)
-folded('byte_and_3_and_5_in_mode_%d' % STANDARD, AND, 3, 5, 1, BYTE, STANDARD, WITH_A_MODE)
-
-# a Bad on whether a value is the Rust's, and one on whether it is the standard's
-for kind_name, kind, x, rust, standard in (
-        ('div', DIV, 9, 2**63 - 1, MOST), ('div', DIV, 2**63, 2**63 - 1, 1), ('rem', REM, 9, MOST, 9)):
-    for claimed in (rust, standard):
-        nodes = [node(CONST, WORD, x), node(CONST, WORD, 0), node(CONST, WORD, claimed), node(kind, WORD, 0, 1)]
-        given = nodes + [node(EQ, BIT, 3, 2), node(BAD, BIT, 4)]
-        name = '%s_%d_and_0_is_%d' % (kind_name, x, claimed)
-        for mode in (0, TERMINATE, ONE_QUERY, STANDARD, STANDARD + TERMINATE, STANDARD + ONE_QUERY):
-            value = standard if mode & STANDARD else rust
-            holds = int(value == claimed)
-            whole('%s_in_mode_%d' % (name, mode), sections(given, bads=[5]),
-                  refused(13, 3, 0) if holds and mode & (TERMINATE | ONE_QUERY) else
-                  left(nodes + [node(EQ, BIT, 8, 2), node(BAD, BIT, 6 + holds)], made=[(WORD, value)],
-                       replaced=[(3, 8), (4, 6 + holds)], bads=[5] * holds, verdict=removed_all(mode)), mode=mode)
-        whole('%s_in_section_4_under_one_query' % name, sections(given, later=[5]),
-              left(given, later=[5], verdict=REMOVED_ALL), mode=STANDARD + ONE_QUERY)
-    whole('%s_in_section_4_under_terminate' % name, sections(given, later=[5]), refused(13, 4, 0), mode=STANDARD + TERMINATE)
-
-# --- the standard's reads beside the Rust's
-
-
-def in_both(name, words, rust, standard, mode=0):
-    """A call in a mode, and in that mode with standard."""
-    for more, answer in ((0, rust), (STANDARD, standard)):
-        for entry_name, entry in WITH_A_MODE.items():
-            whole('%s_in_mode_%d_by_%s' % (name, mode + more, entry_name), words, answer, A_NAME, mode + more, entry)
-
-
-# the address 5, one that is not known and the address 6, and the values 7 and 9
-WALKED = [A_MEMORY, node(CONST, WORD, 5), A_WORD, node(CONST, WORD, 6), node(CONST, WORD, 7), node(CONST, WORD, 9)]
-AT_5, OPEN, AT_6, SEVEN, NINE = range(1, 6)
-
-
-def writes(*pairs):
-    """Writes of a value at an address, the lowest first; they are the nodes from 6 on."""
-    return WALKED + [node(WRITE, MEMORY, below, *pair) for below, pair in zip((0, *range(6, 6 + len(pairs))), pairs)]
-
-
-def walks(name, nodes, rust, standard, at=AT_5):
-    """A Read of the last of these nodes is the next value of a State. An answer is what stands for the Read, how many writes it
-    looked at, and how many unsettled ones it passed."""
-    read = len(nodes)
-    nodes = nodes + [node(READ, WORD, read - 1, at), node(STATE, WORD, SEVEN, 1)]
-    in_both(name, sections(nodes + [node(NEXT, WORD, read + 1, read)], [read + 2]),
-            *(left(nodes + [node(NEXT, WORD, read + 1, stands or read)], replaced=[(read, stands)] if stands else [],
-                   sequentials=[read + 2], looked=looked, passed=passed) for stands, looked, passed in (rust, standard)))
-
-
-STAYS = None
-walks('hit', writes((AT_5, SEVEN)), (SEVEN, 1, 0), (SEVEN, 1, 0))
-walks('hit_above_an_unsettled_write', writes((OPEN, NINE), (AT_5, SEVEN)), (SEVEN, 1, 0), (SEVEN, 1, 0))
-walks('unsettled_write_between_hits', writes((AT_5, NINE), (OPEN, NINE), (AT_5, SEVEN)), (SEVEN, 1, 0), (SEVEN, 1, 0))
-walks('hit_below_others', writes((AT_5, SEVEN), (AT_6, NINE), (AT_6, NINE)), (SEVEN, 3, 0), (SEVEN, 3, 0))
-walks('hit_below_an_unsettled_write_and_another', writes((AT_5, SEVEN), (OPEN, NINE), (AT_6, NINE)), (SEVEN, 3, 1), (STAYS, 2, 0))
-walks('hit_below_another_and_an_unsettled_write', writes((AT_5, SEVEN), (AT_6, NINE), (OPEN, NINE)), (SEVEN, 3, 1), (STAYS, 1, 0))
-walks('hit_below_two_unsettled_writes', writes((AT_5, SEVEN), (OPEN, NINE), (OPEN, NINE)), (SEVEN, 3, 2), (STAYS, 1, 0))
-walks('no_hit', writes((AT_6, NINE), (AT_6, SEVEN)), (STAYS, 2, 0), (STAYS, 2, 0))
-walks('unsettled_write_alone', writes((OPEN, NINE)), (STAYS, 1, 0), (STAYS, 1, 0))
-walks('two_unsettled_writes_alone', writes((OPEN, NINE), (OPEN, SEVEN)), (STAYS, 2, 0), (STAYS, 1, 0))
-walks('read_at_an_unsettled_address', writes((AT_5, NINE), (OPEN, SEVEN)), (STAYS, 0, 0), (STAYS, 0, 0), OPEN)
-# a memory Ite, 8, of the hit is no Write, and is not counted
-MEMORY_ITE = writes((AT_5, SEVEN)) + [A_BIT, node(ITE, MEMORY, 7, 6, 0)]
-walks('memory_ite', MEMORY_ITE, (STAYS, 0, 0), (STAYS, 0, 0))
-for what, address in (('other', AT_6), ('unsettled', OPEN)):
-    walks('%s_write_above_a_memory_ite' % what, MEMORY_ITE + [node(WRITE, MEMORY, 8, address, NINE)], (STAYS, 1, 0), (STAYS, 1, 0))
-
-# two Reads, 9 and 10, and their sum: each of them is counted
-TWO_READS = writes((AT_5, SEVEN), (OPEN, NINE), (AT_6, NINE)) + [node(READ, WORD, 8, AT_5, times=2)]
-in_both('two_reads', sections(TWO_READS + [node(ADD, WORD, 9, 10), node(STATE, WORD, SEVEN, 1), node(NEXT, WORD, 12, 11)], [13]),
-        left(TWO_READS + [node(ADD, WORD, SEVEN, SEVEN), node(STATE, WORD, SEVEN, 1), node(NEXT, WORD, 12, 16)],
-             made=[(WORD, 14)], replaced=[(9, SEVEN), (10, SEVEN), (11, 16)], sequentials=[13], looked=6, passed=2),
-        left(TWO_READS + [node(ADD, WORD, 9, 10), node(STATE, WORD, SEVEN, 1), node(NEXT, WORD, 12, 11)], sequentials=[13],
-             looked=4))
-
-# an address that is a State: 4 of the nodes above, in place of the Input
-STATE_ADDRESS = MEMORY_NODES[:4] + [node(STATE, WORD)] + MEMORY_NODES[5:]
-in_both('address_state_without_an_input', sections(STATE_ADDRESS + [node(NEXT, WORD, 8, 7)], [9]),
-        *(left(STATE_ADDRESS + [node(NEXT, WORD, 8, stands)], sequentials=[9], **walk) for stands, walk in READ_5.values()))
-for number, stands, looked in ((5, 5, 1), (6, 2, 2)):
-    for mode in (0, STANDARD):
-        # it is settled: the 9 is stored at 5, or elsewhere
-        whole('address_state_takes_%d_in_mode_%d' % (number, mode),
-              sections(STATE_ADDRESS + [node(NEXT, WORD, 8, 7)], [9], inputs=[number]),
-              left(STATE_ADDRESS[:6] + [node(WRITE, MEMORY, 3, 12, 5), *STATE_ADDRESS[7:], node(NEXT, WORD, 8, stands)],
-                   made=[(WORD, number)], replaced=[(4, 12), (7, stands)], sequentials=[9], taken=1, looked=looked), A_NAME, mode)
-whole('address_state_takes_none_by_with_solver', sections(STATE_ADDRESS + [node(NEXT, WORD, 8, 7)], [9], inputs=[6]),
-      left(STATE_ADDRESS + [node(NEXT, WORD, 8, 7)], sequentials=[9], looked=1), A_NAME, STANDARD, WITH_SOLVER)
-
-# The init of the memory State 8, whose Next is dropped, is not visited: its address stays the sum 6, which is no constant. The Read
-# is added to that sum, which is visited first and is 5, or to the Const 5.
-UNVISITED = [A_MEMORY, node(CONST, WORD, 2), node(CONST, WORD, 3), node(CONST, WORD, 5), node(CONST, WORD, 7),
-             node(WRITE, MEMORY, 0, 3, 4), node(ADD, WORD, 1, 2), node(WRITE, MEMORY, 5, 6, 1), node(STATE, MEMORY, 7, 1),
-             node(NEXT, MEMORY, 8, 8)]
-for what, operand, made, replaced, five in (('not_replaced', 3, [], [], 3), ('replaced', 6, [(WORD, 5)], [(6, 16)], 16)):
-    total = 16 + len(made)
-    in_both('unvisited_init_with_a_sum_%s' % what,
-            sections(UNVISITED + [node(READ, WORD, 8, 3), node(ADD, WORD, operand, 10), node(STATE, WORD, 4, 1),
-                                  node(NEXT, WORD, 12, 11)], [9, 13]),
-            left(UNVISITED + [node(READ, WORD, 7, 3), node(ADD, WORD, five, 4), node(STATE, WORD, 4, 1),
-                              node(NEXT, WORD, 12, total)],
-                 made=made + [(WORD, 12)], replaced=replaced + [(8, 7), (10, 4), (11, total)], sequentials=[13], looked=2,
-                 passed=1),
-            left(UNVISITED + [node(READ, WORD, 7, 3), node(ADD, WORD, five, 10), node(STATE, WORD, 4, 1),
-                              node(NEXT, WORD, 12, 11)],
-                 made=made, replaced=replaced + [(8, 7)], sequentials=[13], looked=1))
-
-# an address that is an Ite, 8, of 5 or 6 and the Input 2: replies settle it or do not
-UNSETTLED = (SEVEN, 2, 1), (STAYS, 1, 0)
-for what, branch, replies, address, walked in (
-        ('no_reply', AT_6, [], 8, UNSETTLED), ('no_and_no', AT_6, [0, 0], 8, UNSETTLED),
-        ('is_the_input', AT_6, [0, 1], OPEN, UNSETTLED), ('is_6', AT_6, [1], AT_6, [(SEVEN, 2, 0)] * 2),
-        ('is_5', AT_5, [1], AT_5, [(NINE, 1, 0)] * 2)):
-    nodes = writes((AT_5, SEVEN)) + [A_BIT, node(ITE, WORD, 7, branch, OPEN)]
-    above = [node(READ, WORD, 9, AT_5), node(STATE, WORD, SEVEN, 1)]
-    asked = [(EQUAL, 8, *pair) for pair in zip((branch, OPEN), replies or [0, 0])]
-    in_both('address_ite_%s' % what,
-            sections(nodes + [node(WRITE, MEMORY, 6, 8, NINE)] + above + [node(NEXT, WORD, 11, 10)], [12], replies=replies),
-            *(left(nodes + [node(WRITE, MEMORY, 6, address, NINE)] + above + [node(NEXT, WORD, 11, stands or 10)],
-                   replaced=([(8, address)] if address != 8 else []) + ([(10, stands)] if stands else []), sequentials=[12],
-                   questions=asked, used=len(replies), looked=looked, passed=passed) for stands, looked, passed in walked),
-            mode=MINIMISE)
-
 # --- wrong answers, each in one small way: who overlooks it counts too few. The list cannot say of scratch, or of the words after the
 # result, that they are not 0.
 
@@ -837,20 +674,14 @@ def wrong_call(what, name, refusal, words=()):
     return wrong(calls, what, name, (refusal, words), plain)
 
 
-def words_of(name):
-    """The words that the case of that name leaves."""
-    return flat(next(call for call in calls if call[0] == name)[-1])
-
-
-def wrong_made(what, name, constant, other):
-    """That case with another last made constant; both are (sort, number)."""
-    words = words_of(name)
+def wrong_sort(what, name, constant, sort):
+    """That case with another sort for its last made constant, which is (sort, number)."""
+    words = flat(next(call for call in calls if call[0] == name)[-1])
     at = cut(words, (ROW_WIDTH, 2))[1] - 2
-    assert tuple(words[at:at + 2]) == constant, name
-    return wrong_call(what, name, DONE, words[:at] + list(other) + words[at + 2:])
+    assert (words[at], words[at + 1]) == constant, name
+    return wrong_call(what, name, DONE, words[:at] + [sort] + words[at + 1:])
 
 
-READ_5_IN_MODE = 'read_5_below_an_unsettled_write_in_mode_%d_by_impl'
 wrong_calls = [
     wrong_call('first_word', 'every_section_room', DONE, but(ALL_WORDS, 0, 1)),
     wrong_call('middle_word', 'every_section_room', DONE, but(ALL_WORDS, len(ALL_WORDS) // 2, 1)),
@@ -879,24 +710,12 @@ wrong_calls = [
     wrong_call('state_not_visited', 'kept_next_visits_its_state_in_mode_0', DONE,
                flat(left(KEPT[:5] + [node(NEXT, BIT, 3, 7)], replaced=[(4, 7)], sequentials=[5], inputs=[7]))),
     # another sort for a made constant: a word for bytes, a byte for a word, the operand's for an Ext, one byte more
-    wrong_made('byte_and_as_a_word', 'byte_and_3_and_5_stays_a_byte_by_impl', (BYTE, 1), (WORD, 1)),
-    wrong_made('or_of_7_bytes_as_a_word', 'or_sort_%d_top_half_and_1' % BYTES[-1], (BYTES[-1], 2**55 + 1), (WORD, 2**55 + 1)),
-    wrong_made('word_and_as_a_byte', 'word_and_3_and_5_stays_a_word_by_impl', (WORD, 1), (BYTE, 1)),
-    wrong_made('ext_with_its_operands_sort', 'ext_of_a_made_byte_is_a_word_in_mode_0', (WORD, 1), (BYTE, 1)),
-    wrong_made('or_of_2_bytes_as_3', 'or_sort_%d_top_half_and_1' % (BYTE + 1), (BYTE + 1, 2**15 + 1), (BYTE + 2, 2**15 + 1)),
-    wrong_made('not_of_a_byte_as_a_word', 'not_of_a_made_byte_in_mode_0', (BYTE, 254), (WORD, 254)),
-    # the Rust's values for the standard's, the standard's for the Rust's, and a sign overlooked
-    wrong_made('standard_rem_by_0_all_ones', 'rem_5_and_0_in_mode_8_by_impl', (WORD, 5), (WORD, MOST)),
-    wrong_made('standard_div_by_0_as_the_rust_has_it', 'div_5_and_0_in_mode_8_by_with_solver', (WORD, MOST), (WORD, 2**63 - 1)),
-    wrong_made('standard_div_of_a_negative_by_0_all_ones', 'div_%d_and_0_in_mode_8_by_impl' % MOST, (WORD, 1), (WORD, MOST)),
-    wrong_made('standard_div_of_the_least_by_-1_one_less', 'div_%d_and_%d_in_mode_8_by_impl' % (2**63, MOST), (WORD, 2**63),
-               (WORD, 2**63 - 1)),
-    wrong_made('rem_by_0_as_the_standard_has_it', 'rem_5_and_0_in_mode_0_by_impl', (WORD, MOST), (WORD, 5)),
-    # an unsettled write passed in mode 8 and not in mode 0; given up at, but not counted, or counted as passed, the tally's last but one
-    wrong_call('standard_passes_an_unsettled_write', READ_5_IN_MODE % 8, DONE, words_of(READ_5_IN_MODE % 0)),
-    wrong_call('rust_gives_up_at_an_unsettled_write', READ_5_IN_MODE % 0, DONE, words_of(READ_5_IN_MODE % 8)),
-    wrong_call('unsettled_write_not_counted', READ_5_IN_MODE % 8, DONE, but(words_of(READ_5_IN_MODE % 8), -3, -1)),
-    wrong_call('unsettled_write_counted_as_passed', READ_5_IN_MODE % 8, DONE, but(words_of(READ_5_IN_MODE % 8), -2, 1)),
+    wrong_sort('byte_and_as_a_word', 'byte_and_3_and_5_stays_a_byte_by_impl', (BYTE, 1), WORD),
+    wrong_sort('or_of_7_bytes_as_a_word', 'or_sort_%d_top_half_and_1' % BYTES[-1], (BYTES[-1], 2**55 + 1), WORD),
+    wrong_sort('word_and_as_a_byte', 'word_and_3_and_5_stays_a_word_by_impl', (WORD, 1), BYTE),
+    wrong_sort('ext_with_its_operands_sort', 'ext_of_a_made_byte_is_a_word_in_mode_0', (WORD, 1), BYTE),
+    wrong_sort('or_of_2_bytes_as_3', 'or_sort_%d_top_half_and_1' % (BYTE + 1), (BYTE + 1, 2**15 + 1), BYTE + 2),
+    wrong_sort('not_of_a_byte_as_a_word', 'not_of_a_made_byte_in_mode_0', (BYTE, 254), WORD),
 ]
 
 

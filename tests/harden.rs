@@ -1,6 +1,5 @@
 // Runs a program on random bytes, random numbers, mutated good cases and tables of bytes, and demands one of its two answers each time: no
-// signal, no hang, nothing else printed. Of an accepted one it demands that rows and replacements keep their sorts, and that no unsettled write
-// was passed in a standard mode (rows.rs).
+// signal, no hang, nothing else printed. Of an accepted one it demands that rows and replacements keep their sorts (rows.rs).
 //     rustc -O tests/harden.rs -o target/harden
 //     target/harden PROGRAM COUNT SEED [LIST]      LIST has the good cases, crates/replay/data/cases.list unless given
 use std::io::{Read, Write};
@@ -71,18 +70,11 @@ fn random_numbers(random: &mut Random) -> Vec<u8> {
     numbers.join(" ").into_bytes()
 }
 
-fn random_mode(random: &mut Random) -> u64 {
-    random.next() % (HIGHEST_MODE + 1)
-}
-
-// A good text in any mode, and every second time with one number changed: by one, or to any.
+// A good text with one number changed: by one, or to any.
 fn renumbered(random: &mut Random, texts: &[Vec<u8>]) -> Vec<u8> {
     let text = String::from_utf8_lossy(&texts[random.below(texts.len())]).into_owned();
     let mut words: Vec<String> = text.split_ascii_whitespace().map(str::to_string).collect();
-    if let Some(mode) = words.first_mut() {
-        *mode = random_mode(random).to_string();
-    }
-    if !words.is_empty() && random.below(2) == 0 {
+    if !words.is_empty() {
         let at = random.below(words.len());
         let number: u64 = words[at].parse().unwrap_or(0);
         let near = [number.wrapping_add(1), number.wrapping_sub(1), random_number(random)];
@@ -143,7 +135,7 @@ fn bytes_table(random: &mut Random) -> Vec<u8> {
         row(EQ, BIT, [last + 1, last, 0], 0),
         row(BAD, BIT, [last + 7, 0, 0], 0),
     ]);
-    let mut numbers = vec![random_mode(random), rows.len() as u64];
+    let mut numbers = vec![random.next() % (HIGHEST_MODE + 1), rows.len() as u64];
     numbers.extend(rows.iter().flatten());
     // the three lists, an input, two replies and a name
     numbers.extend([1, last + 2, 1, last + 6, 1, last + 8, 1, random.next() & most, 2, 0, random.next() % 2, 1, 1, 120]);

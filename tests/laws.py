@@ -1,7 +1,6 @@
 #!/usr/bin/env python3
 """docs/LAWS.md, held to the statements that are proved, and judged by operators that are written here, over the width, from FORMAT and SMT-LIB.
-    tests/laws.py [PROGRAM]        lists what is wrong, and then ends with 1; with PROGRAM, optimize_model, each example is also folded by it, in
-                                   the mode of each reading
+    tests/laws.py [PROGRAM]        lists what is wrong, and then ends with 1; with PROGRAM, optimize_model, each example is also folded by it
 Each line says what the field of its name says in crates/btor/specs, and each field has its line. Where the page has 64, any width is meant: a law
 must hold on all operands of small widths and on those at limits of 64 bits, in both readings; by 0 exactly where the page says. An example must have
 its value. What is no law must fail at its operands with those two values and, at small widths, at no smaller ones. Wrong lines, kept here, must be
@@ -20,7 +19,6 @@ from house import BAD, BIT, BYTE, CONST, EQ, WORD
 ROOT = pathlib.Path(__file__).resolve().parent.parent
 SPECS = ROOT / "crates/btor/specs"
 READINGS = {"the Rust's": "rust", "the standard's": "standard"}
-MODES = {"rust": 0, "standard": 8}
 RELATIONS = {"=": operator.eq, "not": operator.ne, "<": operator.lt, ">=": operator.ge}
 NAMES = "xyzpq"
 SMALL = {1: (3, 4, 5, 6), 2: (3, 4, 5), 3: (3, 4)}  # widths tried in full, by how many operands there are
@@ -318,7 +316,7 @@ def model(form, at):
         if isinstance(term, tuple) and term[0] in KINDS:
             nodes.append(house.row(KINDS[term[0]], BIT if term[0] == "Ult" else sort, place(term[1]), place(term[2])))
         else:
-            nodes.append(house.row(CONST, sort, value(term, 64, at=at)))
+            nodes.append(house.row(CONST, sort, value(term, 64, "rust", at)))
         return len(nodes) - 1
 
     sides = [place(side) for side in form.sides]
@@ -327,10 +325,10 @@ def model(form, at):
     return nodes, sides
 
 
-def folded(program, mode, form, at):
+def folded(program, form, at):
     """What the program makes of both sides, and whether it kept the bad state."""
     nodes, sides = model(form, at)
-    words = [mode, len(nodes), *itertools.chain(*nodes), 0, 1, len(nodes) - 1, 0, 0, 0, 0]
+    words = [0, len(nodes), *itertools.chain(*nodes), 0, 1, len(nodes) - 1, 0, 0, 0, 0]
     told = subprocess.run([program], input=" ".join(map(str, words)), capture_output=True, text=True).stdout.splitlines()
     assert told[:1] == ["accepted"], f"{told} for {words}"
     sections = [[int(word) for word in line.split()[1:]] for line in told[1:]]
@@ -342,9 +340,8 @@ def folded(program, mode, form, at):
 
 def judge_folded(program, text, operands):
     form, at = Form(text, ""), assigned(operands.split(":")[0], 64)
-    for how, mode in MODES.items():
-        values, found = form.values(64, how, at), folded(program, mode, form, at)
-        assert found == (values, values[0] == values[1]), f"folded to {found} in mode {mode}"
+    values = form.values(64, "rust", at)
+    assert folded(program, form, at) == (values, values[0] == values[1]), f"folded to {folded(program, form, at)}"
 
 
 def main():

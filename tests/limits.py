@@ -631,7 +631,7 @@ listed('section_2_before_section_4', (6, 2, 0), [word], [], [word])
 listed('section_3_before_section_4', (6, 3, 0), [], [word], [word])
 listed('second_of_section_2_before_first_of_section_3', (6, 2, 1), [next_word, word], [word])
 listed('next_again_before_section_3', (7, 2, 1), [next_word, next_word], [word])
-for mode in (1, 2, 4, 5, 6, 7, 8, HIGHEST_MODE):
+for mode in (1, 2, 4, 5, 6, HIGHEST_MODE):
     listed('mode_%d_wrong_entry_in_section_2' % mode, (6, 2, 0), [word], [], [], mode)
     listed('mode_%d_next_twice' % mode, (7, 2, 1), [next_word, next_word], [], [], mode)
     listed('mode_%d_wrong_entry_in_section_3' % mode, (6, 3, 0), [], [word], [], mode)

@@ -1,5 +1,5 @@
-// Judges an accepted answer from its text and its sections alone, and folds nothing: every row passes the rules for nodes again, every
-// replacement has its node's sort, and in a standard mode no unsettled write was passed (docs/FORMAT.md, "Nodes", "Modes", "Folding" and "Result").
+// Judges an accepted answer from its text and its sections alone, and folds nothing: every row passes the rules for nodes again, and every
+// replacement has its node's sort (docs/FORMAT.md, "Nodes", "Folding" and "Result").
 
 #[path = "../oracle/src/house.rs"]
 pub mod house;
@@ -8,10 +8,6 @@ use self::house::*;
 use std::array::from_fn;
 
 pub type Row = [u64; ROW_WIDTH];
-
-// What a standard mode has added, and the tally's figure that is 0 then.
-const STANDARD: u64 = 8;
-const UNSETTLED_PASSED: usize = 3;
 
 struct Folded {
     given: Vec<Row>,
@@ -22,12 +18,8 @@ struct Folded {
 
 // Says what is wrong with the sections of an accepted answer, each without its count.
 pub fn judge(text: &[u8], sections: &[Vec<u64>]) -> Result<(), String> {
-    let (mode, given) = mode_and_rows(text).ok_or("accepted, though the text has no rows")?;
-    if mode & STANDARD != 0 && sections[8].get(UNSETTLED_PASSED) != Some(&0) {
-        return Err(format!("the tally is {:?} in mode {mode}", sections[8]));
-    }
     let folded = Folded {
-        given,
+        given: given_rows(text).ok_or("accepted, though the text has no rows")?,
         rows: entries(&sections[0]),
         constants: entries(&sections[1]),
         replaced: entries(&sections[2]),
@@ -43,13 +35,13 @@ pub fn judge(text: &[u8], sections: &[Vec<u64>]) -> Result<(), String> {
     }
 }
 
-// The mode, and the rows of section 1, which stands after it.
-fn mode_and_rows(text: &[u8]) -> Option<(u64, Vec<Row>)> {
+// The rows of section 1, which stands after the mode.
+fn given_rows(text: &[u8]) -> Option<Vec<Row>> {
     let text = String::from_utf8(text.to_vec()).ok()?;
     let numbers: Option<Vec<u64>> = text.split_ascii_whitespace().map(|number| number.parse().ok()).collect();
     let numbers = numbers?;
     let count = *numbers.get(1)? as usize;
-    Some((numbers[0], entries(numbers.get(2..2 + ROW_WIDTH * count)?)))
+    Some(entries(numbers.get(2..2 + ROW_WIDTH * count)?))
 }
 
 fn entries<const WIDTH: usize>(words: &[u64]) -> Vec<[u64; WIDTH]> {

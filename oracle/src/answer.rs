@@ -1,35 +1,27 @@
-// A text's answer: refusals 1 to 7 and 12 as docs/FORMAT.md has them, all else by the published Rust but for the departures, in the modes
-// with 8 by the Rust with three expressions exchanged; and how the program prints it.
+// A text's answer: refusals 1 to 7 and 12 as docs/FORMAT.md has them, all else by the published Rust but for the departures; and how the
+// program prints it.
 
 use crate::departures::depart;
 use crate::fold::{self, Sections};
 use crate::house::RESULT_WIDTHS;
-use crate::readings::Met;
 use crate::table::{Refusal, Table};
 
 pub type Answer = Result<Sections, Refusal>;
 
 pub fn answer(text: &[u8]) -> Answer {
-    judged(text).answer
+    judged(text).0
 }
 
-// A text's answer, a name for each departure in it, and what its fold met.
-pub struct Judged {
-    pub answer: Answer,
-    pub departed: Vec<&'static str>,
-    pub met: Met,
-}
-
-pub fn judged(text: &[u8]) -> Judged {
-    let table = match Table::read(text) {
-        Ok(table) => table,
-        Err(refused) => {
-            return Judged { answer: Err(refused), departed: vec![], met: Met::default() }
+// A text's answer, and a name for each departure in it.
+pub fn judged(text: &[u8]) -> (Answer, Vec<&'static str>) {
+    let folded = Table::read(text).and_then(|table| Ok((fold::answer(&table)?, table)));
+    match folded {
+        Ok((mut sections, table)) => {
+            let departed = depart(&table, &mut sections);
+            (Ok(sections), departed)
         }
-    };
-    let (mut answer, met) = fold::answer(&table);
-    let departed = answer.as_mut().map_or(vec![], |sections| depart(&table, sections));
-    Judged { answer, departed, met }
+        Err(refused) => (Err(refused), vec![]),
+    }
 }
 
 // The lines that the program prints, without their ends.

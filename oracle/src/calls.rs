@@ -11,5 +11,5 @@ pub fn fold_model<S: SMTSolver>(
 }
 
 pub fn sort_code(sort: &NodeType) -> u64 {
-    crate::unicorn::get_sort(sort)
+    super::get_sort(sort)
 }

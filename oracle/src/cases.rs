@@ -1,8 +1,8 @@
 // Random tables of every kind, sort and mode, mostly accepted.
 
+use crate::departures::HIGHEST_MODE_OF_THE_RUST;
 use crate::house::*;
 use crate::random::Random;
-use crate::readings::{DIVIDENDS, DIVISORS};
 use crate::table::{Row, Table};
 
 const DUMPS: [&[u8]; 2] = [b"memory-dump", b"memory-dump-2"];
@@ -17,7 +17,7 @@ pub fn random(random: &mut Random, most_nodes: u64) -> Table {
         4 => &[WORD, WORD, WORD, BIT],
         _ => &[BIT, WORD, MEMORY, narrow],
     };
-    let mode = random.below(HIGHEST_MODE + 1);
+    let mode = random.below(HIGHEST_MODE_OF_THE_RUST + 1);
     let mut draft = Draft { random, table: Table { mode, ..Table::default() }, sorts };
     draft.draw_names();
     draft.draw_inputs();
@@ -79,7 +79,7 @@ impl Draft<'_> {
         }
     }
 
-    // A chain of writes, perhaps behind a State that is dropped, and one or two Bads, each over a read of it.
+    // A Bad over a read of a chain of writes, perhaps behind a State that is dropped.
     fn grow_read_root(&mut self) {
         let mut memory = self.grow(MEMORY, 1);
         for _ in 0..1 + self.random.below(3) {
@@ -92,13 +92,6 @@ impl Draft<'_> {
             memory = self.push(STATE, MEMORY, [memory, 1, 0], name);
             self.push(NEXT, MEMORY, [memory, memory, 0], 0);
         }
-        for _ in 0..1 + self.random.below(4) / 3 {
-            self.grow_read(memory);
-        }
-    }
-
-    // A Bad over a read of the memory.
-    fn grow_read(&mut self, memory: u64) {
         let constants = self.constant_words();
         let address = match self.random.below(4) {
             0 => self.grow_address(),
@@ -159,9 +152,6 @@ impl Draft<'_> {
             return self.grow_leaf(sort);
         }
         let kind = self.draw_kind(sort);
-        if matches!(kind, DIV | REM) && room > 2 && self.random.chance(1, 2) {
-            return self.grow_quotient(kind);
-        }
         let compared = match self.random.pick(self.sorts) {
             MEMORY => WORD,
             other => other,
@@ -193,15 +183,6 @@ impl Draft<'_> {
         self.push(kind, sort, words, name)
     }
 
-    // A quotient or a remainder of two Consts.
-    fn grow_quotient(&mut self, kind: u64) -> u64 {
-        let dividend = self.random.pick(&DIVIDENDS);
-        let divisor = self.random.pick(&DIVISORS);
-        let left = self.push(CONST, WORD, [dividend, 0, 0], 0);
-        let right = self.push(CONST, WORD, [divisor, 0, 0], 0);
-        self.push(kind, WORD, [left, right, 0], 0)
-    }
-
     fn draw_kind(&mut self, sort: u64) -> u64 {
         let kinds: &[u64] = match sort {
             BIT if self.sorts[0] != BIT && self.random.chance(1, 2) => &[ULT, EQ],
@@ -210,8 +191,8 @@ impl Draft<'_> {
                 &[READ, READ, READ, READ, ADD, ITE, STATE, CONST]
             }
             WORD => &[
-                ADD, SUB, MUL, DIVU, DIV, DIV, REM, REM, SLL, SRL, EXT, EXT, ITE, ITE, AND, OR,
-                NOT, STATE, CONST,
+                ADD, SUB, MUL, DIVU, DIV, REM, SLL, SRL, EXT, EXT, ITE, ITE, AND, OR, NOT, STATE,
+                CONST,
             ],
             MEMORY => &[WRITE, WRITE, WRITE, WRITE, WRITE, ITE, STATE, INPUT],
             _ => &[CONST, AND, AND, OR, OR, NOT, NOT, ITE, STATE],
@@ -272,7 +253,7 @@ impl Draft<'_> {
 
     // Mostly replies that the questions of the mode can have.
     fn draw_replies(&mut self) {
-        let replies: &[u64] = match (self.random.below(12), self.table.mode & !STANDARD) {
+        let replies: &[u64] = match (self.random.below(12), self.table.mode) {
             (0, _) => &[0, 1, 2, 3, u64::MAX],
             (_, 0 | 2) => &[0, 1, 2],
             (_, 1 | 3) => &[0, 0, 0, 0, 0, 0, 1, 1, 1, 2],

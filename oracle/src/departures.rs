@@ -4,7 +4,7 @@ use crate::fold::Sections;
 use crate::house::{AND, BYTE, BYTES_7, OR, WORD};
 use crate::table::{Row, Table};
 
-// The highest mode that the Rust has; of a higher one the unchanged Rust is not asked.
+// The highest mode that the Rust has; of a higher one it is not asked.
 pub const HIGHEST_MODE_OF_THE_RUST: u64 = 7;
 
 // The Rust's sort of a constant made for such a node. Here it has the node's own.

@@ -1,11 +1,9 @@
-// What a case and its answer show: kinds with their sorts, modes, refusals with their places, ways of replacement, questions, tallies, and where
-// the readings part.
+// What a case and its answer show: kinds with their sorts, modes, refusals with their places, ways of replacement, questions, tallies.
 
-use crate::answer::Judged;
+use crate::answer::Answer;
 use crate::fold::Sections;
 use crate::house::*;
 use crate::mix::Case;
-use crate::readings::{Below, Met, Walk};
 use crate::table::{tokens, Refusal, Row, Table};
 use std::collections::BTreeSet;
 
@@ -15,8 +13,7 @@ pub type Features = BTreeSet<Feature>;
 // Bytes beside the digits and blanks, and those of signs and the like.
 const TELLING: [u8; 14] = [0, 8, 11, 12, 14, b'+', b',', b'-', b'.', b'/', b':', 127, 160, 255];
 
-pub fn features(case: &Case, judged: &Judged) -> Features {
-    let answer = &judged.answer;
+pub fn features(case: &Case, answer: &Answer) -> Features {
     let (number, section) =
         answer.as_ref().map_or_else(|refused| (refused.number, refused.section), |_| (0, 0));
     let mut found: Features = case.labels.iter().map(|label| (*label, 0, 0, 0)).collect();
@@ -29,7 +26,6 @@ pub fn features(case: &Case, judged: &Judged) -> Features {
     if let Some(table) = &table {
         found.extend(of_table(table));
         found.insert(("outcome by mode", table.mode, number, 0));
-        found.extend(of_met(&judged.met, table.mode, number));
     }
     match (answer, table) {
         (Err(refused), table) => {
@@ -62,24 +58,6 @@ fn of_table(table: &Table) -> Features {
         }
     }
     found
-}
-
-// Where the readings part, with the mode and whether the case is refused; and each walk.
-fn of_met(met: &Met, mode: u64, number: u64) -> Features {
-    let partings = met.partings.iter().map(|parting| (*parting, mode, number.min(1), 0));
-    partings.chain(met.walks.iter().map(|walk| of_walk(walk, mode & STANDARD))).collect()
-}
-
-// How many writes a walk looks at, how it ends, and whether a hit or an unsettled write stands further below.
-fn of_walk(walk: &Walk, standard: u64) -> Feature {
-    let end = match walk.seen().last() {
-        Some(Below::Hit) => 1,
-        Some(Below::Unsettled) => 2,
-        Some(Below::Other) | None => 0,
-    };
-    let further = |write: Below| walk.unseen().contains(&write) as u64;
-    let below = further(Below::Hit) + 2 * further(Below::Unsettled);
-    ("walk", standard + walk.looked_at.min(3) as u64, end, below)
 }
 
 fn of_refusal(refused: &Refusal, table: Option<&Table>) -> Features {

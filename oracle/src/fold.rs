@@ -1,17 +1,16 @@
-// A judged table folded by the published `optimize_model_impl`, in the modes with 8 with three expressions exchanged, and what can be seen of it.
+// A judged table folded by the published `optimize_model_impl`, and what can be seen of it.
 
 use crate::departures::HIGHEST_MODE_OF_THE_RUST;
 use crate::graph::{build, constant, rewritten};
-use crate::house::{MEMORY, STANDARD};
+use crate::house::MEMORY;
 use crate::making;
-use crate::readings::{self, Below, Met, Walk};
 use crate::table::{fits, refusal, Refusal, Row, Table};
-use reference::unicorn::optimize::{self, last_folded, Folded};
+use reference::unicorn::optimize::{fold_model, last_folded, Folded};
 use reference::unicorn::smt_solver::{SMTSolution, SMTSolver};
 use reference::unicorn::{Model, Node, NodeRef};
 use std::any::Any;
 use std::cell::RefCell;
-use std::collections::{BTreeSet, HashMap};
+use std::collections::HashMap;
 use std::panic::{catch_unwind, panic_any, resume_unwind, AssertUnwindSafe};
 use std::rc::Rc;
 use std::time::Duration;
@@ -34,42 +33,36 @@ const SATISFIABLE: &str = "Bad state satisfiable";
 const LOOKED_AT: usize = 2;
 const PASSED: usize = 3;
 
-// What the plain run gives, each word the Rust's own, and from a run with markers the two counts of writes; and what the run met, also
-// where it ends by a refusal.
-pub fn answer(table: &Table) -> (Result<Sections, Refusal>, Met) {
-    let judged = |(ended, run): (Ended, Run)| {
-        let answer = ended.map_err(|panic| refusal_of(panic, table, &run));
-        (answer, run.partings)
-    };
-    let plain = judged(run(table, false, true));
-    let (ended, run) = run(table, true, true);
-    let walks = walks(&run);
-    let (mut answer, mut partings) = judged((ended, run));
-    assert_eq!(plain, (answer.clone(), partings.clone()), "the markers are seen");
-    if let Ok(sections) = &mut answer {
-        [sections[8][LOOKED_AT], sections[8][PASSED]] = count_writes(&walks);
+// What the plain run gives, each word the Rust's own, and from a run with markers the two counts of writes.
+pub fn answer(table: &Table) -> Result<Sections, Refusal> {
+    let refused = |(panic, run): Ended| refusal_of(panic, table, &run);
+    let plain = run(table, false, true).map_err(refused);
+    let mut marked = run(table, true, true).map_err(refused);
+    let counted = marked.clone();
+    if let Ok(sections) = &mut marked {
+        sections[8][LOOKED_AT] = 0;
+        sections[8][PASSED] = 0;
     }
-    partings.extend(walks.iter().filter_map(Walk::parting));
-    (answer, Met { partings, walks })
+    assert_eq!(plain, marked, "the markers are seen");
+    counted
 }
 
 // What the plain run gives where no input is judged, without the two counts of writes; or the text of its panic.
 pub fn unjudged(table: &Table) -> Result<Sections, String> {
-    let ended = catch_unwind(|| run(table, false, false).0);
-    ended.unwrap_or_else(Err).map_err(|panic| {
+    let ended = catch_unwind(|| run(table, false, false));
+    ended.unwrap_or_else(|panic| Err((panic, Run::default()))).map_err(|(panic, _)| {
         let text = panic.downcast_ref::<&str>().map(|text| text.to_string());
         let text = text.or_else(|| panic.downcast_ref::<String>().cloned());
         text.unwrap_or("a reply that its question cannot have".to_string())
     })
 }
 
-// The sections, or a panic.
-type Ended = Result<Sections, Box<dyn Any + Send>>;
+// A panic, and what was noted until then.
+type Ended = (Box<dyn Any + Send>, Run);
 
 // What the listener and the solver note during a run.
 #[derive(Default)]
 struct Run {
-    standard: bool,
     judges_inputs: bool,
     nodes: Vec<NodeRef>,
     markers: Vec<Option<NodeRef>>,
@@ -80,7 +73,6 @@ struct Run {
     judged_bads: Vec<u64>,
     searches: Vec<Search>,
     forwarded: usize,
-    partings: BTreeSet<&'static str>,
     verdict: u64,
 }
 
@@ -105,11 +97,8 @@ fn with_run<T>(f: impl FnOnce(&mut Run) -> T) -> T {
     RUN.with(|run| f(&mut run.borrow_mut()))
 }
 
-// How a run ends, and what was noted of it until then.
-fn run(table: &Table, marked: bool, judges_inputs: bool) -> (Ended, Run) {
-    let mode = table.mode & !STANDARD;
-    assert!(mode <= HIGHEST_MODE_OF_THE_RUST, "the Rust has no mode {mode}");
-    let standard = mode != table.mode;
+fn run(table: &Table, marked: bool, judges_inputs: bool) -> Result<Sections, Ended> {
+    assert!(table.mode <= HIGHEST_MODE_OF_THE_RUST, "the Rust has no mode {}", table.mode);
     let (nodes, markers) = build(table, marked);
     let listed = |list: &[u64]| list.iter().map(|entry| nodes[*entry as usize].clone()).collect();
     let mut model = Model {
@@ -125,24 +114,23 @@ fn run(table: &Table, marked: bool, judges_inputs: bool) -> (Ended, Run) {
     let mut inputs = table.inputs.clone();
     let sorts = table.nodes.iter().map(|row| row.sort).collect();
     let replies = table.replies.clone();
-    let fresh = Run { standard, judges_inputs, nodes, markers, sorts, replies, ..Run::default() };
-    let fold = match standard {
-        false => optimize::fold_model::<Scripted>,
-        true => optimize::standard::fold_model::<Scripted>,
-    };
-    let bit = |value| mode & value != 0;
+    let fresh = Run { judges_inputs, nodes, markers, sorts, replies, ..Run::default() };
+    let bit = |value| table.mode & value != 0;
 
     with_run(|run| *run = fresh);
     making::start();
     log::listen(Some(hear));
-    let ended =
-        catch_unwind(AssertUnwindSafe(|| fold(&mut model, &mut inputs, bit(1), bit(2), bit(4))));
+    let ended = catch_unwind(AssertUnwindSafe(|| {
+        fold_model::<Scripted>(&mut model, &mut inputs, bit(1), bit(2), bit(4))
+    }));
     log::listen(None);
     let run = with_run(std::mem::take);
-    (ended.map(|()| sections(table, &run, &model, inputs)), run)
+    match ended {
+        Ok(()) => Ok(sections(table, &run, &model, inputs)),
+        Err(panic) => Err((panic, run)),
+    }
 }
 
-// The sections that a run leaves, without the two counts of writes.
 fn sections(table: &Table, run: &Run, model: &Model, inputs: Vec<u64>) -> Sections {
     let folded = last_folded().expect("a folder that ended well");
     let (numbers, constants) = number_nodes(table, run, &folded);
@@ -177,8 +165,9 @@ fn sections(table: &Table, run: &Run, model: &Model, inputs: Vec<u64>) -> Sectio
         let second = question.second.as_ref().map_or(0, number);
         sections[7].extend([question.kind, first, second, question.reply]);
     }
+    let (looked_at, passed) = count_writes(run);
     let replies_taken = run.replies_taken as u64;
-    sections[8] = vec![inputs_taken, replies_taken, 0, 0, run.verdict];
+    sections[8] = vec![inputs_taken, replies_taken, looked_at, passed, run.verdict];
     sections
 }
 
@@ -243,12 +232,6 @@ fn hear(text: &str) {
             run.note_search();
         } else if text.starts_with("Folding READ(") {
             run.forwarded += 1;
-        } else if let Some(text) = text.strip_prefix("Folding DIV(") {
-            let (left, right) = operands(text);
-            run.partings.extend(readings::of_div(left, right));
-        } else if let Some(text) = text.strip_prefix("Folding REM(") {
-            let (left, right) = operands(text);
-            run.partings.extend(readings::of_rem(left, right));
         } else if text.ends_with("' became statically reachable!") {
             run.note_judged_bad();
         } else if text.starts_with("SMT solver 'Scripted' found bad state") {
@@ -259,13 +242,6 @@ fn hear(text: &str) {
             run.verdict = ALL_REMOVED;
         }
     })
-}
-
-// The two operands in a message, each in brackets.
-fn operands(text: &str) -> (u64, u64) {
-    let parts: Vec<&str> = text.split(['[', ']']).collect();
-    let operand = |place: usize| parts[place].parse().expect("an operand");
-    (operand(1), operand(3))
 }
 
 impl Run {
@@ -379,35 +355,36 @@ fn joined_bads(node: &NodeRef) -> u64 {
     }
 }
 
-// The walk of each Read with a constant address, over the Writes as they stood at its moment.
-fn walks(run: &Run) -> Vec<Walk> {
-    let walks: Vec<Walk> = run.searches.iter().filter_map(|search| walk(run, search)).collect();
-    let found = walks.iter().filter(|walk| walk.found()).count();
-    assert_eq!(found, run.forwarded, "a search went another way");
-    walks
-}
-
-fn walk(run: &Run, search: &Search) -> Option<Walk> {
-    let (mut memory, address) = match &*run.nodes[search.read].borrow() {
-        Node::Read { memory, address, .. } => (memory.clone(), constant(address)?),
-        _ => unreachable!("a Read"),
-    };
-    let mut writes = Vec::new();
-    while let Some((below, held)) = search.writes.get(&Rc::as_ptr(&memory)) {
-        writes.push(match held {
-            Some(held) if *held == address => Below::Hit,
-            Some(_) => Below::Other,
-            None => Below::Unsettled,
-        });
-        memory = below.clone();
+// Writes looked at, and unsettled writes passed by reads that found a value: each search walked
+// again over the Writes as they stood at its moment.
+fn count_writes(run: &Run) -> (u64, u64) {
+    let mut looked_at = 0;
+    let mut passed = 0;
+    let mut found = 0;
+    for search in &run.searches {
+        let (mut memory, address) = match &*run.nodes[search.read].borrow() {
+            Node::Read { memory, address, .. } => (memory.clone(), constant(address)),
+            _ => unreachable!("a Read"),
+        };
+        if address.is_none() {
+            continue;
+        }
+        let mut unsettled = 0;
+        while let Some((below, held)) = search.writes.get(&Rc::as_ptr(&memory)) {
+            looked_at += 1;
+            if *held == address {
+                passed += unsettled;
+                found += 1;
+                break;
+            }
+            if held.is_none() {
+                unsettled += 1;
+            }
+            memory = below.clone();
+        }
     }
-    Some(Walk::down(writes, run.standard))
-}
-
-// Writes looked at, and unsettled writes passed by reads that found a value.
-fn count_writes(walks: &[Walk]) -> [u64; 2] {
-    let looked_at: usize = walks.iter().map(|walk| walk.looked_at).sum();
-    let found = walks.iter().filter(|walk| walk.found());
-    let passed: usize = found.map(Walk::unsettled).sum();
-    [looked_at as u64, passed as u64]
+    if run.markers.iter().any(Option::is_some) {
+        assert_eq!(found, run.forwarded, "a search went another way");
+    }
+    (looked_at, passed)
 }

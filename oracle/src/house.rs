@@ -6,8 +6,7 @@ pub const ROW_WIDTH: usize = 6;
 pub const NODE_ROOM: usize = 22;
 pub const BAD_ROOM: usize = 5;
 pub const LEAST_ROOM: usize = 22;
-pub const HIGHEST_MODE: u64 = 15;
-pub const STANDARD: u64 = 8; // the part of a mode that the published Rust does not have
+pub const HIGHEST_MODE: u64 = 7;
 
 pub const MOST_NODES: u64 = 4096;
 pub const MOST_ENTRIES: u64 = 1024; // in each of sections 2, 3 and 4

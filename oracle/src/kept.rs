@@ -2,7 +2,7 @@
 //     kept SEED POOL COUNT < TEXT     COUNT cases out of POOL on standard output, half of them accepted as far as there are so many; most of the
 //                                     wrong ones are of TEXT, the worked example. How many cases there are is said on standard error.
 
-use judge::answer::{answer, hide_refusals, judged, printed};
+use judge::answer::{answer, hide_refusals, printed};
 use judge::features::{features, Feature, Features};
 use judge::house::{BYTE, CONST, WORD};
 use judge::mix;
@@ -123,12 +123,12 @@ fn draw(seed: u64, count: u64) -> Vec<Kept> {
     let mut pool = Vec::new();
     for _ in 0..count {
         let case = mix::case(&mut random);
-        let judged = judged(&case.text);
-        let shows = features(&case, &judged);
-        let answer = printed(&judged.answer);
+        let answered = answer(&case.text);
+        let shows = features(&case, &answered);
+        let answer = printed(&answered);
         let text = case.text;
         if texts.insert(text.clone()) {
-            pool.push(Kept { text, answer, accepted: judged.answer.is_ok(), shows });
+            pool.push(Kept { text, answer, accepted: answered.is_ok(), shows });
         }
     }
     pool

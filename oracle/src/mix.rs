@@ -2,7 +2,8 @@
 
 use crate::cases;
 use crate::damages::{self, Labels};
-use crate::house::{HIGHEST_MODE, PROGRAM_NODES};
+use crate::departures::HIGHEST_MODE_OF_THE_RUST;
+use crate::house::PROGRAM_NODES;
 use crate::random::Random;
 use crate::table::Table;
 use crate::texts;
@@ -20,12 +21,6 @@ pub struct Case {
     pub kind: Kind,
     pub labels: Labels,
     pub text: Vec<u8>,
-}
-
-impl Case {
-    pub fn about(&self) -> String {
-        format!("{}: {}", self.kind.name(), self.labels.join(", "))
-    }
 }
 
 impl Kind {
@@ -68,7 +63,7 @@ fn draw_table(random: &mut Random, labels: &mut Labels) -> Table {
     };
     let mut table = if random.chance(1, 100) {
         labels.push("no nodes");
-        let mode = random.below(HIGHEST_MODE + 1);
+        let mode = random.below(HIGHEST_MODE_OF_THE_RUST + 1);
         Table { mode, ..Table::default() }
     } else {
         cases::random(random, most)

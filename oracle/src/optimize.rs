@@ -1,17 +1,7 @@
-// The published optimize.rs, unchanged, and beside it what lets a test reach its private items. Below, over the same nodes, the one that
-// `build` makes of it by the exchanges of standard.sed.
+// The published optimize.rs, unchanged, and beside it what lets a test reach its private items.
 
 include!("published_optimize.rs");
 include!("calls.rs");
-include!("dropped.rs");
-
-pub mod standard {
-    use super::{Folded, LAST};
-
-    include!("standard_optimize.rs");
-    include!("calls.rs");
-    include!("dropped.rs");
-}
 
 pub fn all_ones(sort: &NodeType) -> u64 {
     ones(sort)
@@ -31,4 +21,17 @@ thread_local! {
 // What the last folder of this thread held; nothing if it ended by a panic.
 pub fn last_folded() -> Option<Folded> {
     LAST.with(|last| last.borrow_mut().take())
+}
+
+impl<'a, S> Drop for ConstantFolder<'a, S> {
+    fn drop(&mut self) {
+        let folded = Folded {
+            const_false: self.const_false.clone(),
+            const_true: self.const_true.clone(),
+            replacements: (self.mapping.iter())
+                .map(|(node, replacement)| (node.value.clone(), replacement.clone()))
+                .collect(),
+        };
+        LAST.with(|last| *last.borrow_mut() = (!std::thread::panicking()).then_some(folded));
+    }
 }

@@ -1,5 +1,4 @@
-// The program `optimize_model` as the published Rust would answer it but for the departures, in the modes with 8 with three expressions exchanged:
-// a text on standard input, its answer on standard output.
+// The program `optimize_model` as the published Rust would answer it but for the departures: a text on standard input, its answer on standard output.
 
 use judge::answer::{answer, hide_refusals, printed};
 use std::io::{self, Read, Write};

@@ -227,11 +227,6 @@ pub fn tokens(text: &[u8]) -> impl Iterator<Item = &[u8]> {
     text.split(|byte| b" \t\r\n".contains(byte)).filter(|token| !token.is_empty())
 }
 
-// The mode of a text, if its first number is one.
-pub fn mode(text: &[u8]) -> Option<u64> {
-    tokens(text).next().and_then(number).filter(|mode| *mode <= HIGHEST_MODE)
-}
-
 // The numbers of the text, the first of them a mode.
 fn numbers(text: &[u8]) -> Result<Vec<u64>, Refusal> {
     let mut numbers = Vec::new();

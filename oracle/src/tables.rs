@@ -1,4 +1,4 @@
-// Whole tables: their answers by the published Rust but for the departures, in the modes with 8 with three expressions exchanged; and random cases.
+// Whole tables: their answers by the published Rust but for the departures, and random cases.
 //     tables answer                        a case a line on standard input, an answer a line
 //     tables unjudged                      the same, with no refusal but 1 and 2 and no departure: what the Rust does by itself
 //     tables random SEED COUNT [NODES]     cases, mostly accepted, of at most NODES nodes (14)

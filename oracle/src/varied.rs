@@ -1,10 +1,8 @@
-// Tables varied further: long names and many, chains of writes, quotients at which the readings part, wide inputs, bads listed twice, and sizes
-// at the program's limits.
+// Tables varied further: long names and many, chains of writes, wide inputs, bads listed twice, and sizes at the program's limits.
 
 use crate::damages::Labels;
 use crate::house::*;
 use crate::random::Random;
-use crate::readings::{DIVIDENDS, DIVISORS, LEAST};
 use crate::table::Table;
 
 // Operands at which an operator does something of its own.
@@ -18,7 +16,7 @@ pub fn vary(random: &mut Random, table: &mut Table, labels: &mut Labels) {
         labels.push(make_mild(random, table));
     }
     for _ in 0..random.below(4) / 2 {
-        match random.below(12) {
+        match random.below(9) {
             0 => labels.push(lengthen_name(random, table)),
             1 => labels.push(add_chain(random, table)),
             2 => labels.push(add_foldable_init(random, table)),
@@ -27,9 +25,7 @@ pub fn vary(random: &mut Random, table: &mut Table, labels: &mut Labels) {
             5 => labels.push(add_replies(random, table)),
             6 => labels.push(add_names(random, table)),
             7 => labels.push(add_operator(random, table)),
-            8 => labels.push(choose_memories(random, table)),
-            9 | 10 => labels.push(add_quotient(random, table)),
-            _ => labels.push(add_unvisited_chain(random, table)),
+            _ => labels.push(choose_memories(random, table)),
         }
     }
     cut_to_room(table);
@@ -43,7 +39,7 @@ pub fn vary(random: &mut Random, table: &mut Table, labels: &mut Labels) {
 
 // Larger tables are mostly refused on the way; less so without terminate, wrong replies and inputs.
 fn make_mild(random: &mut Random, table: &mut Table) -> &'static str {
-    table.mode = table.mode & STANDARD | random.pick(&[0, 1, 1, 4, 5]);
+    table.mode = random.pick(&[0, 1, 1, 4, 5]);
     table.replies = (0..random.below(60)).map(|_| random.pick(&[0, 0, 0, 1])).collect();
     if random.chance(2, 3) {
         table.inputs.clear();
@@ -70,8 +66,11 @@ fn lengthen_name(random: &mut Random, table: &mut Table) -> &'static str {
 
 // A memory under writes at few addresses, settled and not, perhaps an Ite between; and reads of it.
 fn add_chain(random: &mut Random, table: &mut Table) -> &'static str {
-    let mut memory = add_memory(random, table);
-    let open = table.push(INPUT, WORD, [0; 3], table.names.len() as u64);
+    table.names.push(b"memory-dump".iter().map(|byte| *byte as u64).collect());
+    let name = table.names.len() as u64;
+    let kind = random.pick(&[STATE, INPUT]);
+    let mut memory = table.push(kind, MEMORY, [0; 3], name);
+    let open = table.push(INPUT, WORD, [0; 3], name);
     let mut words = vec![open];
     for number in 0..3 {
         words.push(table.push(CONST, WORD, [number, 0, 0], 0));
@@ -95,67 +94,6 @@ fn add_chain(random: &mut Random, table: &mut Table) -> &'static str {
         table.initial_bads.push(bad);
     }
     "a chain of writes"
-}
-
-// A memory that is dropped, over writes of which some are at a sum that would fold, visited, if at all, from elsewhere; and reads of both.
-fn add_unvisited_chain(random: &mut Random, table: &mut Table) -> &'static str {
-    let mut memory = add_memory(random, table);
-    let mut words: Vec<u64> =
-        (0..3).map(|number| table.push(CONST, WORD, [number, 0, 0], 0)).collect();
-    let sum = [random.pick(&words), random.pick(&words), 0];
-    words.extend([table.push(ADD, WORD, sum, 0); 2]);
-    for _ in 0..1 + random.below(4) {
-        let write = [memory, random.pick(&words), random.pick(&words)];
-        memory = table.push(WRITE, MEMORY, write, 0);
-    }
-    let state = table.push(STATE, MEMORY, [memory, 1, 0], 0);
-    let next = table.push(NEXT, MEMORY, [state, state, 0], 0);
-    table.sequentials.push(next);
-    for _ in 0..1 + random.below(3) {
-        let read = [random.pick(&[state, state, memory]), random.pick(&words), 0];
-        let read = table.push(READ, WORD, read, 0);
-        let condition = table.push(EQ, BIT, [read, random.pick(&words), 0], 0);
-        let bad = table.push(BAD, BIT, [condition, 0, 0], 0);
-        table.initial_bads.push(bad);
-    }
-    "a dropped memory over writes that may not be visited"
-}
-
-// A quotient or a remainder at which the readings may part, or a read of a write at that address, against what one of them may give.
-fn add_quotient(random: &mut Random, table: &mut Table) -> &'static str {
-    let number = random.pick(&DIVIDENDS);
-    let dividend = match random.below(3) {
-        0 => {
-            let other = table.push(CONST, WORD, [!number, 0, 0], 0);
-            table.push(NOT, WORD, [other, 0, 0], 0)
-        }
-        _ => table.push(CONST, WORD, [number, 0, 0], 0),
-    };
-    let divisor = table.push(CONST, WORD, [random.pick(&DIVISORS), 0, 0], 0);
-    let kind = random.pick(&[DIV, DIV, REM]);
-    let quotient = table.push(kind, WORD, [dividend, divisor, 0], 0);
-    let given = random.pick(&[0, 1, number, LEAST - 1, LEAST, u64::MAX]);
-    let given = table.push(CONST, WORD, [given, 0, 0], 0);
-    let compared = if random.chance(1, 3) {
-        let memory = add_memory(random, table);
-        let write = table.push(WRITE, MEMORY, [memory, quotient, given], 0);
-        table.push(READ, WORD, [write, given, 0], 0)
-    } else {
-        quotient
-    };
-    let kind = random.pick(&[EQ, EQ, ULT]);
-    let condition = table.push(kind, BIT, [compared, given, 0], 0);
-    let bad = table.push(BAD, BIT, [condition, 0, 0], 0);
-    let lists = [&mut table.initial_bads, &mut table.sequential_bads];
-    lists.into_iter().nth(random.below(2) as usize).unwrap().push(bad);
-    "a quotient at which the readings may part"
-}
-
-// A memory that takes no input.
-fn add_memory(random: &mut Random, table: &mut Table) -> u64 {
-    table.names.push(b"memory-dump".iter().map(|byte| *byte as u64).collect());
-    let kind = random.pick(&[STATE, INPUT]);
-    table.push(kind, MEMORY, [0; 3], table.names.len() as u64)
 }
 
 // A State that is dropped, over an init that would fold and is visited, if at all, from elsewhere.

@@ -53,8 +53,7 @@ pub struct Tally {
     pub replies_taken: u64,
     /// Writes looked at by Reads with a constant address.
     pub writes_looked_at: u64,
-    /// Writes with an unknown address that were passed by Reads that found a value. Values are promised only where this is 0, as it always is
-    /// under [`Mode::standard`](crate::Mode::standard).
+    /// Writes with an unknown address that were passed by Reads that found a value. Values are promised only where this is 0.
     pub unsettled_passed: u64,
     pub verdict: Verdict,
 }

@@ -9,7 +9,7 @@ pub const BAD_ROOM: usize = 5;
 /// The room that a table without nodes and entries needs.
 pub const LEAST_ROOM: usize = 22;
 /// A mode above this is refused.
-pub const HIGHEST_MODE: u64 = 15;
+pub const HIGHEST_MODE: u64 = 7;
 
 /// The nodes that a table has at most.
 pub const MOST_NODES: usize = 4096;

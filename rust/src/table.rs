@@ -7,23 +7,6 @@ use crate::node::{Name, Node, NodeId};
 use crate::refusal::Refusal;
 
 /// What a fold is asked for besides folding.
-///
-/// ```
-/// use gemtweed::{Mode, Node, Sort, Table};
-///
-/// // The remainder of 9 by 0 is 9 by the standard, so a bad state that says so stays. The Rust's is 2^64 - 1: it drops it.
-/// let mut table = Table::default();
-/// let nine = table.add(Node::Const { sort: Sort::Word, number: 9 });
-/// let zero = table.add(Node::Const { sort: Sort::Word, number: 0 });
-/// let remainder = table.add(Node::Rem { left: nine, right: zero });
-/// let condition = table.add(Node::Eq { left: remainder, right: nine });
-/// let bad = table.add(Node::Bad { condition, name: None });
-/// table.initial_bads.push(bad);
-///
-/// let standard = Mode { standard: true, ..Mode::default() };
-/// assert_eq!(table.fold(standard).unwrap().initial_bads, [bad]);
-/// assert_eq!(table.fold(Mode::default()).unwrap().initial_bads, []);
-/// ```
 #[derive(Clone, Copy, Debug, Default, PartialEq, Eq, Hash)]
 pub struct Mode {
     /// Ask the solver about nodes that did not fold.
@@ -32,18 +15,11 @@ pub struct Mode {
     pub terminate: bool,
     /// Put one question about all initial bad states at the end. Turns terminate on, and leaves the sequential bad states unvisited.
     pub one_query: bool,
-    /// Fold by the operators and reads of SMT-LIB and BTOR2, not by the Rust's. Div by 0 gives 2^64 - 1 for a dividend below 2^63, else 1; Div of
-    /// 2^63 by 2^64 - 1 gives 2^63; Rem by 0 gives the dividend. A Read gives up at a Write whose address is no constant, and stays.
-    pub standard: bool,
 }
 
 impl Mode {
-    /// The sum of 1 for minimise, 2 for terminate, 4 for one-query and 8 for standard: at most [`HIGHEST_MODE`](crate::HIGHEST_MODE).
     pub fn number(self) -> u64 {
-        u64::from(self.minimise)
-            + 2 * u64::from(self.terminate)
-            + 4 * u64::from(self.one_query)
-            + 8 * u64::from(self.standard)
+        u64::from(self.minimise) + 2 * u64::from(self.terminate) + 4 * u64::from(self.one_query)
     }
 }
 

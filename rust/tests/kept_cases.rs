@@ -111,13 +111,6 @@ fn every_sort_of_every_kept_case() {
     assert!(made >= 1000, "too few made constants: {made}");
 }
 
-#[test]
-fn an_unsettled_write_passed_in_a_standard_mode_is_noticed() {
-    let sections = sections("accepted\n0\n2 1 0 1 1\n0\n0\n0\n0\n0\n0\n5 0 0 2 1 3\n").unwrap();
-    assert!(rows::judge(b"7 0 0 0 0 0 0 0", &sections).is_ok());
-    assert!(rows::judge(b"15 0 0 0 0 0 0 0", &sections).is_err());
-}
-
 // The table of a call that is accepted; nothing if it has a reply that is none, which no question took.
 fn table(call: &Call) -> Option<Table> {
     let mut rest = &call.words[..];

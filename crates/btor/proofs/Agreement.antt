@@ -11,8 +11,8 @@ use borrow.Author.Tests.{eqb-false}
 use Rattle.btor.specs.Operators.{Op, Add, Sub, Mul, Divu, Div, Rem, Sll, Srl, Reading, rust, standard, compute, signed_div, signed, word, overflow, complement, bit, div_by_zero, least_by_minus_one}
 use Rattle.btor.specs.Standard.{BitVector, bv2nat, nat2bv, bvneg, bvudiv, bvsdiv, bvand, bvor, bvnot, bvult, bit_vector_op, on_numbers, Equal, ite, Truth, test_bit}
 use Rattle.btor.specs.Agreement.{disagrees, StandardAgrees, RustAgrees, WidthsAgree, TestsAgree, ChoiceAgrees, MemoriesAgree, HouseAgrees}
-use Rattle.btor.proofs.Words.{shl_far, shr_far, div-quotient, magnitude-low, magnitude-high, quot_same-low, quot_same-high, quot_low-high, quot_high-low}
-use Rattle.btor.proofs.BitVectors.{number_same, number_of, number-of-fit, number-not, number_extended, number-neg, number-add, number-sub, number-mul, number-udiv, number_urem, number_shl, number_lshr, top_bit, and_at, or_at}
+use Rattle.btor.proofs.Words.{shl_far, shr_far, div_quotient, magnitude-low, magnitude-high, quot_same-low, quot_same-high, quot_low-high, quot_high-low}
+use Rattle.btor.proofs.BitVectors.{number_same, number_of, number-of_fit, number-not, number_extended, number-neg, number-add, number-sub, number-mul, number-udiv, number_urem, number_shl, number_lshr, top_bit, and_at, or_at}
 
 -- a test by cases, with what it showed
 pub cases : {A : Type 0} (P : A → Type 0) (b : Bool) {x y : A} → (b ≡ true → P x) → (b ≡ false → P y) → P (elim b [ true ↦ x | false ↦ y ])
@@ -22,7 +22,7 @@ cases P false f g = g refl
 -- ---- And, Or, Not, Ult, Eq, Ext, at each width
 module _ (w : ℕ) where
   pub equal-numbers : (x y : ℕ) → x < 2 ^ w → y < 2 ^ w → Equal w (nat2bv x) (nat2bv y) → x ≡ y
-  equal-numbers x y hx hy h = sym (number-of-fit w x hx) ∙ number_same w (nat2bv x) (nat2bv y) h ∙ number-of-fit w y hy
+  equal-numbers x y hx hy h = sym (number-of_fit w x hx) ∙ number_same w (nat2bv x) (nat2bv y) h ∙ number-of_fit w y hy
 
   not_agrees : (x : ℕ) → x < 2 ^ w → complement w x ≡ bv2nat w (bvnot (nat2bv x))
   unfolding complement
@@ -32,13 +32,13 @@ module _ (w : ℕ) where
   unfolding bvult
   widths_agree =
       record {
-        and = λ x y hx hy. sym (number_same w (bvand (nat2bv x) (nat2bv y)) (nat2bv _) (λ k _. and_at x y k) ∙ number-of-fit w _ (and_lt w x y hx hy));
-        or = λ x y hx hy. sym (number_same w (bvor (nat2bv x) (nat2bv y)) (nat2bv _) (λ k _. or_at x y k) ∙ number-of-fit w _ (or_lt w x y hx hy));
+        and = λ x y hx hy. sym (number_same w (bvand (nat2bv x) (nat2bv y)) (nat2bv _) (λ k _. and_at x y k) ∙ number-of_fit w _ (and_lt w x y hx hy));
+        or = λ x y hx hy. sym (number_same w (bvor (nat2bv x) (nat2bv y)) (nat2bv _) (λ k _. or_at x y k) ∙ number-of_fit w _ (or_lt w x y hx hy));
         complement = not_agrees;
-        less = λ x y hx hy. sym (ap₂ ltb (number-of-fit w x hx) (number-of-fit w y hy));
+        less = λ x y hx hy. sym (ap₂ ltb (number-of_fit w x hx) (number-of_fit w y hy));
         equal = λ x y hx hy e k l. ap (λ (n : ℕ). nat2bv n k) (eqb-true x y e);
         unequal = λ x y hx hy e h. eqb-false x y e (equal-numbers x y hx hy h);
-        extend = λ i x h. sym (number_extended w i (nat2bv x) ∙ number-of-fit w x h);
+        extend = λ i x h. sym (number_extended w i (nat2bv x) ∙ number-of_fit w x h);
       }
 
   pub same_truth : (x y : ℕ) → x < 2 ^ w → y < 2 ^ w → Truth (eqb x y) (Equal w (nat2bv x) (nat2bv y))
@@ -68,9 +68,9 @@ unfolding ite
 cond-ite true a b = refl
 cond-ite false a b = refl
 
-pub choice-agrees : (A : Type 0) → ChoiceAgrees A
+pub choice_agrees : (A : Type 0) → ChoiceAgrees A
 unfolding ChoiceAgrees
-choice-agrees A c a b t l h = cond-ite (eqb c 1) a b ∙ ap (λ (u : Bool). ite u a b) (truth_one (eqb c 1) t (same_truth 1 c 1 l (lit< tt)) h)
+choice_agrees A c a b t l h = cond-ite (eqb c 1) a b ∙ ap (λ (u : Bool). ite u a b) (truth_one (eqb c 1) t (same_truth 1 c 1 l (lit< tt)) h)
 
 -- ---- Read and Write
 pub memories_agree : MemoriesAgree
@@ -117,10 +117,10 @@ sdiv-number x y hx hy = simp (top_bit 63 x hx, top_bit 63 y hy) (go (ltb x (2 ^ 
     Y = nat2bv y
 
     p : bv2nat 64 X ≡ x
-    p = number-of-fit 64 x hx
+    p = number-of_fit 64 x hx
 
     q : bv2nat 64 Y ≡ y
-    q = number-of-fit 64 y hy
+    q = number-of_fit 64 y hy
 
     p' : bv2nat 64 (bvneg 64 X) ≡ neg x
     p' = number-neg_64 X x p
@@ -139,36 +139,36 @@ sdiv-number x y hx hy = simp (top_bit 63 x hx, top_bit 63 y hy) (go (ltb x (2 ^ 
 neg-high : (x : ℕ) → 2 ^ 63 ≤ x → x < 2 ^ 64 → neg x ≡ 2 ^ 64 - x
 neg-high x h l = mod-eq_of_lt (omega arith)
 
-udiv-quotient : (x y : ℕ) → y ≢ 0 → udiv x y ≡ x / y
-udiv-quotient x y h = simp (ne_eqb y 0 h)
+udiv_quotient : (x y : ℕ) → y ≢ 0 → udiv x y ≡ x / y
+udiv_quotient x y h = simp (ne_eqb y 0 h)
 
 -- where there is a quotient
-sdiv-quotient : (x y : ℕ) → x < 2 ^ 64 → y < 2 ^ 64 → y ≢ 0 → overflow x y ≡ false
+sdiv_quotient : (x y : ℕ) → x < 2 ^ 64 → y < 2 ^ 64 → y ≢ 0 → overflow x y ≡ false
     → compute standard Div x y ≡ sdiv (ltb x (2 ^ 63)) (ltb y (2 ^ 63)) x y
-sdiv-quotient x y hx hy n e = div-quotient standard x y n e ∙ go (ltb x (2 ^ 63)) refl (ltb y (2 ^ 63)) refl
+sdiv_quotient x y hx hy n e = div_quotient standard x y n e ∙ go (ltb x (2 ^ 63)) refl (ltb y (2 ^ 63)) refl
   where
     go : (a : Bool) → ltb x (2 ^ 63) ≡ a → (b : Bool) → ltb y (2 ^ 63) ≡ b
         → word (quot_z (signed x) (signed y)) ≡ sdiv a b x y
     go true p true q =
         quot_same-low x y (ltb-true _ _ p) (ltb-true _ _ q)
         ∙ ap₂ (λ (i j : ℕ). i / j) (magnitude-low x (ltb-true _ _ p)) (magnitude-low y (ltb-true _ _ q))
-        ∙ sym (udiv-quotient x y n)
+        ∙ sym (udiv_quotient x y n)
     go true p false q =
         let high = ltb-false y (2 ^ 63) q in
         quot_low-high x y (ltb-true _ _ p) high hy
         ∙ ap₂ (λ (i j : ℕ). (2 ^ 64 - i / j) % 2 ^ 64) (magnitude-low x (ltb-true _ _ p)) (magnitude-high y high)
-        ∙ sym (ap (λ (k : ℕ). neg (udiv x k)) (neg-high y high hy) ∙ ap neg (udiv-quotient x (2 ^ 64 - y) (λ z. omega arith)))
+        ∙ sym (ap (λ (k : ℕ). neg (udiv x k)) (neg-high y high hy) ∙ ap neg (udiv_quotient x (2 ^ 64 - y) (λ z. omega arith)))
     go false p true q =
         let high = ltb-false x (2 ^ 63) p in
         quot_high-low x y high hx (ltb-true _ _ q)
         ∙ ap₂ (λ (i j : ℕ). (2 ^ 64 - i / j) % 2 ^ 64) (magnitude-high x high) (magnitude-low y (ltb-true _ _ q))
-        ∙ sym (ap (λ (k : ℕ). neg (udiv k y)) (neg-high x high hx) ∙ ap neg (udiv-quotient (2 ^ 64 - x) y n))
+        ∙ sym (ap (λ (k : ℕ). neg (udiv k y)) (neg-high x high hx) ∙ ap neg (udiv_quotient (2 ^ 64 - x) y n))
     go false p false q =
         let hx' = ltb-false x (2 ^ 63) p in
         let hy' = ltb-false y (2 ^ 63) q in
         quot_same-high x y hx' hx hy' hy
         ∙ ap₂ (λ (i j : ℕ). i / j) (magnitude-high x hx') (magnitude-high y hy')
-        ∙ sym (ap₂ udiv (neg-high x hx' hx) (neg-high y hy' hy) ∙ udiv-quotient (2 ^ 64 - x) (2 ^ 64 - y) (λ z. omega arith))
+        ∙ sym (ap₂ udiv (neg-high x hx' hx) (neg-high y hy' hy) ∙ udiv_quotient (2 ^ 64 - x) (2 ^ 64 - y) (λ z. omega arith))
 
 sdiv-by-zero : (x : ℕ) → compute standard Div x 0 ≡ sdiv (ltb x (2 ^ 63)) true x 0
 unfolding compute signed_div
@@ -195,45 +195,45 @@ div_agrees x y hx hy = go (eqb y 0) refl (overflow x y) refl
         let e = both_true (eqb x (2 ^ 63)) (eqb y (2 ^ 64 - 1)) q in
         subst (λ (i : ℕ). compute standard Div i y ≡ sdiv (ltb i (2 ^ 63)) (ltb y (2 ^ 63)) i y) (sym (eqb-true x (2 ^ 63) e.0))
         (subst (λ (j : ℕ). compute standard Div (2 ^ 63) j ≡ sdiv (ltb (2 ^ 63) (2 ^ 63)) (ltb j (2 ^ 63)) (2 ^ 63) j) (sym (eqb-true y (2 ^ 64 - 1) e.1)) sdiv_least)
-    go false p false q = sdiv-quotient x y hx hy (eqb-false y 0 p) q
+    go false p false q = sdiv_quotient x y hx hy (eqb-false y 0 p) q
 
 -- ---- shifts, at each distance
 pub sll_product : (how : Reading) (x y : ℕ) → compute how Sll x y ≡ x * 2 ^ y % 2 ^ 64
 unfolding compute
 sll_product how x y = cases (λ (r : ℕ). r ≡ x * 2 ^ y % 2 ^ 64) (ltb y 64) (λ _. refl) (λ e. sym (shl_far 64 x y (ltb-false y 64 e)))
 
-pub srl-quotient : (how : Reading) (x y : ℕ) → x < 2 ^ 64 → compute how Srl x y ≡ x / 2 ^ y
+pub srl_quotient : (how : Reading) (x y : ℕ) → x < 2 ^ 64 → compute how Srl x y ≡ x / 2 ^ y
 unfolding compute
-srl-quotient how x y h = cases (λ (r : ℕ). r ≡ x / 2 ^ y) (ltb y 64) (λ _. refl) (λ e. sym (shr_far 64 x y h (ltb-false y 64 e)))
+srl_quotient how x y h = cases (λ (r : ℕ). r ≡ x / 2 ^ y) (ltb y 64) (λ _. refl) (λ e. sym (shr_far 64 x y h (ltb-false y 64 e)))
 
 -- ---- the eight operators in the standard's reading
 module _ (x y : ℕ) (hx : x < 2 ^ 64) (hy : y < 2 ^ 64) where
-  fit-x : bv2nat 64 (nat2bv x) ≡ x
-  fit-x = number-of-fit 64 x hx
+  fit_x : bv2nat 64 (nat2bv x) ≡ x
+  fit_x = number-of_fit 64 x hx
 
-  fit-y : bv2nat 64 (nat2bv y) ≡ y
-  fit-y = number-of-fit 64 y hy
+  fit_y : bv2nat 64 (nat2bv y) ≡ y
+  fit_y = number-of_fit 64 y hy
 
   below-x : bv2nat 64 (nat2bv x) < 2 ^ 64
-  below-x = subst (λ (k : ℕ). k < 2 ^ 64) (sym fit-x) hx
+  below-x = subst (λ (k : ℕ). k < 2 ^ 64) (sym fit_x) hx
 
   op-agrees : (op : Op) → compute standard op x y ≡ on_numbers 64 (bit_vector_op 64 op) x y
   unfolding compute
-  op-agrees Add = sym (number-add 64 (nat2bv x) (nat2bv y) ∙ ap₂ (λ (a b : ℕ). (a + b) % 2 ^ 64) fit-x fit-y)
-  op-agrees Sub = sym (number-sub 64 (nat2bv x) (nat2bv y) ∙ ap₂ (λ (a b : ℕ). (a + (2 ^ 64 - b)) % 2 ^ 64) fit-x fit-y)
-  op-agrees Mul = sym (number-mul 64 (nat2bv x) (nat2bv y) ∙ ap₂ (λ (a b : ℕ). a * b % 2 ^ 64) fit-x fit-y)
-  op-agrees Divu = sym (number-udiv_64 (nat2bv x) (nat2bv y) x y fit-x fit-y hx)
+  op-agrees Add = sym (number-add 64 (nat2bv x) (nat2bv y) ∙ ap₂ (λ (a b : ℕ). (a + b) % 2 ^ 64) fit_x fit_y)
+  op-agrees Sub = sym (number-sub 64 (nat2bv x) (nat2bv y) ∙ ap₂ (λ (a b : ℕ). (a + (2 ^ 64 - b)) % 2 ^ 64) fit_x fit_y)
+  op-agrees Mul = sym (number-mul 64 (nat2bv x) (nat2bv y) ∙ ap₂ (λ (a b : ℕ). a * b % 2 ^ 64) fit_x fit_y)
+  op-agrees Divu = sym (number-udiv_64 (nat2bv x) (nat2bv y) x y fit_x fit_y hx)
   op-agrees Div = div_agrees x y hx hy ∙ sym (sdiv-number x y hx hy)
-  op-agrees Rem = sym (number_urem 64 (nat2bv x) (nat2bv y) below-x ∙ ap₂ (λ (a b : ℕ). cond (eqb b 0) a (a % b)) fit-x fit-y)
-  op-agrees Sll = sll_product standard x y ∙ sym (number_shl 64 (nat2bv x) (nat2bv y) ∙ ap₂ (λ (a b : ℕ). a * 2 ^ b % 2 ^ 64) fit-x fit-y)
-  op-agrees Srl = srl-quotient standard x y hx ∙ sym (number_lshr 64 (nat2bv x) (nat2bv y) below-x ∙ ap₂ (λ (a b : ℕ). a / 2 ^ b) fit-x fit-y)
+  op-agrees Rem = sym (number_urem 64 (nat2bv x) (nat2bv y) below-x ∙ ap₂ (λ (a b : ℕ). cond (eqb b 0) a (a % b)) fit_x fit_y)
+  op-agrees Sll = sll_product standard x y ∙ sym (number_shl 64 (nat2bv x) (nat2bv y) ∙ ap₂ (λ (a b : ℕ). a * 2 ^ b % 2 ^ 64) fit_x fit_y)
+  op-agrees Srl = srl_quotient standard x y hx ∙ sym (number_lshr 64 (nat2bv x) (nat2bv y) below-x ∙ ap₂ (λ (a b : ℕ). a / 2 ^ b) fit_x fit_y)
 
-pub standard-agrees : StandardAgrees
+pub standard_agrees : StandardAgrees
 unfolding StandardAgrees
-standard-agrees op x y hx hy = op-agrees x y hx hy op
+standard_agrees op x y hx hy = op-agrees x y hx hy op
 
-pub house-agrees : HouseAgrees
-house-agrees = record { words = standard-agrees; widths = widths_agree; tests = tests_agree; choice = choice-agrees; memories = memories_agree }
+pub house_agrees : HouseAgrees
+house_agrees = record { words = standard_agrees; widths = widths_agree; tests = tests_agree; choice = choice_agrees; memories = memories_agree }
 
 -- ---- the Rust's reading
 self : (x : ℕ) → eqb x x ≡ true

@@ -20,8 +20,8 @@ number_of (suc m) n =
     let e : 1 + m ≡ suc m = omega arith in
     ap (λ (k : ℕ). n / 2 ^ m % 2 * 2 ^ m + k) (number_of m n) ∙ sym (mod-pow-add n 1 m) ∙ ap (λ (k : ℕ). n % 2 ^ k) e
 
-pub number-of-fit : (m n : ℕ) → n < 2 ^ m → bv2nat m (nat2bv n) ≡ n
-number-of-fit m n h = number_of m n ∙ mod-eq_of_lt h
+pub number-of_fit : (m n : ℕ) → n < 2 ^ m → bv2nat m (nat2bv n) ≡ n
+number-of_fit m n h = number_of m n ∙ mod-eq_of_lt h
 
 pub bit_lt : (n x : ℕ) → nat2bv n x < 2
 unfolding nat2bv
@@ -113,7 +113,7 @@ number-udiv m s t h = go (eqb (bv2nat m t) 0)
   where
     go : (z : Bool) → bv2nat m (cond z (λ x. 1) (nat2bv (bv2nat m s / bv2nat m t))) ≡ cond z (2 ^ m - 1) (bv2nat m s / bv2nat m t)
     go true = omega (arith, number-ones m)
-    go false = number-of-fit m (bv2nat m s / bv2nat m t) (omega (arith, div-le_self (bv2nat m s) (bv2nat m t)))
+    go false = number-of_fit m (bv2nat m s / bv2nat m t) (omega (arith, div-le_self (bv2nat m s) (bv2nat m t)))
 
 pub number_urem : (m : ℕ) (s t : BitVector) → bv2nat m s < 2 ^ m
     → bv2nat m (bvurem m s t) ≡ cond (eqb (bv2nat m t) 0) (bv2nat m s) (bv2nat m s % bv2nat m t)
@@ -122,7 +122,7 @@ number_urem m s t h = go (eqb (bv2nat m t) 0)
   where
     go : (z : Bool) → bv2nat m (cond z s (nat2bv (bv2nat m s % bv2nat m t))) ≡ cond z (bv2nat m s) (bv2nat m s % bv2nat m t)
     go true = refl
-    go false = number-of-fit m (bv2nat m s % bv2nat m t) (omega (arith, mod-le (bv2nat m s) (bv2nat m t)))
+    go false = number-of_fit m (bv2nat m s % bv2nat m t) (omega (arith, mod-le (bv2nat m s) (bv2nat m t)))
 
 pub number_shl : (m : ℕ) (s t : BitVector) → bv2nat m (bvshl m s t) ≡ bv2nat m s * 2 ^ bv2nat m t % 2 ^ m
 unfolding bvshl
@@ -130,7 +130,7 @@ number_shl m s t = number_of m (bv2nat m s * 2 ^ bv2nat m t)
 
 pub number_lshr : (m : ℕ) (s t : BitVector) → bv2nat m s < 2 ^ m → bv2nat m (bvlshr m s t) ≡ bv2nat m s / 2 ^ bv2nat m t
 unfolding bvlshr
-number_lshr m s t h = number-of-fit m (bv2nat m s / 2 ^ bv2nat m t) (omega (arith, shr_le (bv2nat m s) (bv2nat m t)))
+number_lshr m s t h = number-of_fit m (bv2nat m s / 2 ^ bv2nat m t) (omega (arith, shr_le (bv2nat m s) (bv2nat m t)))
 
 -- the highest bit is 0 in the lower half
 pub top_bit : (m x : ℕ) → x < 2 ^ suc m → eqb (nat2bv x m) 0 ≡ ltb x (2 ^ m)

@@ -10,7 +10,7 @@ use Rattle.btor.specs.Operators.{Op, Add, Sub, Mul, Divu, Div, Rem, Sll, Srl, Re
 use Rattle.btor.specs.Standard.{nat2bv, bvand, bvor}
 use Rattle.btor.specs.Laws.{AgreeBelow, Rearranges, Shifts, rejoined, Regained, Follows, Laws, LawsHold}
 use Rattle.btor.proofs.BitVectors.{and_at, or_at}
-use Rattle.btor.proofs.Agreement.{cases, equal-numbers, sll_product, srl-quotient}
+use Rattle.btor.proofs.Agreement.{cases, equal-numbers, sll_product, srl_quotient}
 
 -- ---- each result is a word
 mod_word : (x : ℕ) → x % 2 ^ 64 < 2 ^ 64
@@ -141,7 +141,7 @@ module _ (how : Reading) where
   sll_twice x p q = rw (sll_product how x p, sll_product how (x * 2 ^ p % 2 ^ 64) q, sll_product how x (p + q), mod_mul_mod (x * 2 ^ p) (2 ^ q) (2 ^ 64), pow-add 2 p q, mul_assoc x (2 ^ p) (2 ^ q))
 
   srl_twice : (x p q : ℕ) → x < 2 ^ 64 → compute how Srl (compute how Srl x p) q ≡ compute how Srl x (p + q)
-  srl_twice x p q h = srl-quotient how (compute how Srl x p) q (compute-fits how Srl x p h) ∙ rw (srl-quotient how x p h, srl-quotient how x (p + q) h) (shr-shr x p q)
+  srl_twice x p q h = srl_quotient how (compute how Srl x p) q (compute-fits how Srl x p h) ∙ rw (srl_quotient how x p h, srl_quotient how x (p + q) h) (shr-shr x p q)
 
   sll_over_add : (x y p : ℕ) → compute how Sll (compute how Add x y) p ≡ compute how Add (compute how Sll x p) (compute how Sll y p)
   unfolding compute
@@ -156,7 +156,7 @@ module _ (how : Reading) where
   srl_as_divu x p hx hp =
       let distance : compute how Sll 1 p ≡ 2 ^ p = sll_product how 1 p ∙ rw (one-mul (2 ^ p)) (mod-eq_of_lt (pow-lt hp)) in
       let positive : 2 ^ p ≢ 0 = λ e. omega (arith, pow_pos p) in
-      srl-quotient how x p hx ∙ sym (ap (compute how Divu x) distance ∙ rw (compute, ne_eqb (2 ^ p) 0 positive))
+      srl_quotient how x p hx ∙ sym (ap (compute how Divu x) distance ∙ rw (compute, ne_eqb (2 ^ p) 0 positive))
 
   sll_far : (x d : ℕ) → 64 ≤ d → compute how Sll x d ≡ 0
   unfolding compute
@@ -267,6 +267,6 @@ module _ (how : Reading) (f : Op → ℕ → ℕ → ℕ) (on : (op : Op) → Ag
       laws : Laws how (compute how) both either
       laws = operator_laws how
 
-pub laws-hold : LawsHold
+pub laws_hold : LawsHold
 unfolding LawsHold
-laws-hold how f g h e = words_obey how f e.on g h e.and e.or
+laws_hold how f g h e = words_obey how f e.on g h e.and e.or

@@ -4,7 +4,7 @@
 use Rattle.std.proofs.Common.{◌≡◌, ℕ, ◌^◌, ◌<◌, ap, ◌∙◌}
 use Rattle.btor.specs.Operators.{Op, Add, Sub, Mul, Divu, Div, Rem, Sll, Srl, rust, compute}
 use Rattle.btor.specs.Laws.{Laws, LawsHold}
-use Rattle.btor.proofs.Laws.{operator_laws, laws-hold}
+use Rattle.btor.proofs.Laws.{operator_laws, laws_hold}
 use Rattle.btor.proofs.operators.wrapping_add.Reads as wrapping_add
 use Rattle.btor.proofs.operators.wrapping_sub.Reads as wrapping-sub
 use Rattle.btor.proofs.operators.wrapping_mul.Reads as wrapping-mul
@@ -48,7 +48,7 @@ as_computed f m Srl = m Srl
 pub laws_in_code : (f : Op → ℕ → ℕ → ℕ) (g h : ℕ → ℕ → ℕ)
     → ((op : Op) → Meets (Contract op) (f op)) → Meets (and.Learnt tt) g → Meets (or.Learnt tt) h → Laws rust f g h
 unfolding LawsHold
-laws_in_code f g h m a o = laws-hold rust f g h (record { on = as_computed f m; and = a; or = o })
+laws_in_code f g h m a o = laws_hold rust f g h (record { on = as_computed f m; and = a; or = o })
 
 -- a law cited by who calls `wrapping_add` and then `wrapping_sub`: the last two premises are what the two contracts tell
 pub sum_undone : (x y sum difference : ℕ) → x < 2 ^ 64 → y < 2 ^ 64

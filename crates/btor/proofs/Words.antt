@@ -92,9 +92,9 @@ quot_high-low x y hx lx hy =
     (word_negative ((2 ^ 64 - x) / y) (omega (arith, div-le_self (2 ^ 64 - x) y)))
 
 -- Div, where there is a quotient
-pub div-quotient : (how : Reading) (x y : ℕ) → (y ≡ 0 → ⊥) → overflow x y ≡ false → compute how Div x y ≡ word (quot_z (signed x) (signed y))
+pub div_quotient : (how : Reading) (x y : ℕ) → (y ≡ 0 → ⊥) → overflow x y ≡ false → compute how Div x y ≡ word (quot_z (signed x) (signed y))
 unfolding compute signed_div
-div-quotient how x y n e = simp (ne_eqb y 0 n, e)
+div_quotient how x y n e = simp (ne_eqb y 0 n, e)
 
 -- ---- complements
 complement-split : (w x : ℕ) → w ≤ 64 → x < 2 ^ 64 → 2 ^ 64 - 1 - x ≡ (2 ^ (64 - w) - 1 - x / 2 ^ w) * 2 ^ w + (2 ^ w - 1 - x % 2 ^ w)

@@ -40,8 +40,8 @@ module _ (h : List Held) (d g ins reps : List ℕ) (r : Judged) (R S : List ℕ)
   judged-done w count q = sym e ∙ ap (λ (x : Judged). judged_of h d g ins reps x R S at list) q
 
 module _ (g dumps ss initial later ins reps : List ℕ) (mode : Mode) (R S : List ℕ) (w : Walk) (at count : ℕ) (u : Underway g dumps ss initial later ins reps mode R S w at count) where
-  pub lists-fit : at + length ss + length initial + length later ≤ length S
-  lists-fit = omega (arith, u.place, u.runnable.scratch)
+  pub lists_fit : at + length ss + length initial + length later ≤ length S
+  lists_fit = omega (arith, u.place, u.runnable.scratch)
 
   -- what a run leaves at its end
   pub ended : (Q T : List ℕ) (v : Walk) (k : Kept) → length Q ≡ length R → length T ≡ length S → Laid g dumps ins reps mode 0 Q (take at T) v → Spare 0 g (take at T) v 1
@@ -89,8 +89,8 @@ module _ (g dumps ss initial later ins reps : List ℕ) (mode : Mode) (R S : Lis
         let f : Folded = record { state = y.after; sequentials = entries_of S at count; initial = x.stay; later = y.stay; dropped = d₁ ++ d₂; verdict = 0 } in
         let fewer = u.fewer in
         let asks : 2 * count_of g + 4 * v.asked ≤ at = omega (arith, spare, length-take at T) in
-        let first : entries_of S at count ≡ entries_of T at count = sym (entries-still S T at count (omega (arith, lists-fit)) (omega (arith, lists-fit)) (λ j l n. b j l (omega arith) ∙ a j l (omega arith))) in
-        let second : entries_of S₁ (at + length ss) i ≡ entries_of T (at + length ss) i = sym (entries-still S₁ T (at + length ss) i (omega (arith, lists-fit)) (omega (arith, lists-fit)) (λ j l n. b j (omega arith) (omega arith))) in (
+        let first : entries_of S at count ≡ entries_of T at count = sym (entries-still S T at count (omega (arith, lists_fit)) (omega (arith, lists_fit)) (λ j l n. b j l (omega arith) ∙ a j l (omega arith))) in
+        let second : entries_of S₁ (at + length ss) i ≡ entries_of T (at + length ss) i = sym (entries-still S₁ T (at + length ss) i (omega (arith, lists_fit)) (omega (arith, lists_fit)) (λ j l n. b j (omega arith) (omega arith))) in (
           f,
           both-judged m how σ (entries_of S at count) x (at_terminate 3 σ initial (done x) e₁) y (at_terminate 4 x.after later (done y) e₂),
           subst (λ (z : Folded). Handed (flatten (result_words m z)) room U r) (sym (folded-is h₂ (d₁ ++ d₂) g ins reps Q T v (record { sequentials = count; initial = i; later = k }) (record { sequentials = length ss; initial = length initial; later = length later }) 0 at (entries_of S at count) x.stay y.stay u.place asks first second refl)) (subst (λ (c : ℕ). Handed (flatten (result_words m (folded_in h₂ (d₁ ++ d₂) g ins reps Q T v (record { sequentials = count; initial = i; later = k }) (record { sequentials = length ss; initial = length initial; later = length later }) 0))) c U r) same hand),

@@ -10,7 +10,7 @@ use native.Mathlib.Omega.{arith}
 use lib.ListN.{length, get_or, replicate}
 use lib.Seq.{get_or-drop}
 use borrow.Author.Tests.{lt-ltb, le-ltb}
-use Rattle.btor.specs.Operators.{Reading, standard}
+use Rattle.btor.specs.Operators.{Reading}
 use Rattle.rules.specs.Refusal.{done}
 use Rattle.rules.specs.Limits.{house}
 use Rattle.rules.specs.Table.{Node, node_at, operands}
@@ -22,14 +22,12 @@ use Rattle.rules.specs.Whole.{Folded, fold}
 use Rattle.rules.specs.Demand.{worth_of, Keeps}
 use Rattle.rules.specs.Laws.{IsNew, ReplacementBefore, ReplacementSort, RowKeeps, OperandsBelow}
 use Rattle.rules.specs.Call.{Entry, Call, Accepted, outcome, words_of, Answer, answer_of, result_of, left, Demand3OfCall}
-use Rattle.rules.specs.Standard.{StandardOfCall, LookedOfCall}
-use Rattle.rules.proofs.Base.{all_map}
+use Rattle.rules.proofs.Base.{inside-or-past, all_map}
 use Rattle.rules.proofs.Values.{meaning-same}
 use Rattle.rules.proofs.Walked.{folded}
-use Rattle.rules.proofs.Demand.{worth-node, worth-new}
+use Rattle.rules.proofs.Demand.{worth-node, worth-false, worth-true, worth-made}
 use Rattle.rules.proofs.Laws.{replacement_before, replacement_sort, row_keeps, operands-below}
 use Rattle.rules.proofs.Call.{passed, demand3_of_call}
-use Rattle.rules.proofs.Standard.{standard_of_call, looked_of_call}
 use Rattle.rules.proofs.Numbered.{accepted-answer}
 use Rattle.optimize.specs.declared.walk.Optimized.{Optimized}
 use Rattle.optimize.specs.Bounds.{count_of}
@@ -94,14 +92,23 @@ module _ (m : Model) (how : Mode) (f : Folded) (wf : WellFormed m) (e : fold m h
     unfolding worth_in
     worth-past r l = simp (le-ltb r (length t) l)
 
-    worth-constant : (r : ℕ) → IsNew t σ r → worth_in R t α Q r ≡ worth_of R t α σ r
-    worth-constant r h =
+    worth-row : (r : ℕ) → length t ≤ r → number (σ.rows r).a ≡ worth_of R t α σ r
+    worth-row r l =
+        let shares = (folded m how wf f e).fine.shape.shares in
+        inside-or-past (number (σ.rows r).a ≡ worth_of R t α σ r) r (length t + 1)
+        (λ i. let q : length t ≡ r = omega arith in subst (λ k. number (σ.rows k).a ≡ worth_of R t α σ k) q (ap (λ (nd : Node). number nd.a) shares.false! ∙ sym (worth-false R t α σ)))
+        (λ i. inside-or-past (number (σ.rows r).a ≡ worth_of R t α σ r) r (length t + 2)
+        (λ j. let q : length t + 1 ≡ r = omega arith in subst (λ k. number (σ.rows k).a ≡ worth_of R t α σ k) q (ap (λ (nd : Node). number nd.a) shares.true! ∙ sym (worth-true R t α σ)))
+        (λ j. sym (worth-made R t α σ r (omega arith))))
+
+    worth-new : (r : ℕ) → IsNew t σ r → worth_in R t α Q r ≡ worth_of R t α σ r
+    worth-new r h =
         let q : length t + (r - length t) ≡ r = omega (arith, h.0) in
-        worth-past r h.0 ∙ ap number (back.constants (r - length t) (omega (arith, h.0, h.1)) ∙ ap (λ k. (σ.rows k).a) q) ∙ sym (worth-new R t α σ (folded m how wf f e).fine.shape.shares r h.0)
+        worth-past r h.0 ∙ ap number (back.constants (r - length t) (omega (arith, h.0, h.1)) ∙ ap (λ k. (σ.rows k).a) q) ∙ worth-row r h.0
 
     worth-same : (k : ℕ) → k < length t → (r : ℕ) → (r < k) ⊎ IsNew t σ r → worth_in R t α Q r ≡ worth_of R t α σ r
     worth-same k l r (inl h) = worth-below r (omega arith)
-    worth-same k l r (inr h) = worth-constant r h
+    worth-same k l r (inr h) = worth-new r h
 
     -- ---- what the words keep
     module _ (keeps : Keeps R t f α) where
@@ -139,7 +146,7 @@ module _ (entry : Entry) (call : Call) (count : ℕ) (Q S : List ℕ) (c : Contr
   is-accepted = accepted-answer house entry call (sym (ap (λ (z : Answer). z.number) c.answer))
 
   accepted-kept : (a : Accepted) → outcome house entry call ≡ done a → Kept entry call count Q
-  unfolding left Demand3OfCall StandardOfCall LookedOfCall
+  unfolding left Demand3OfCall
   accepted-kept a e =
       let p = passed house entry call a e in
       let words : Q ≡ words_of a ++ replicate (call.result_room - length (words_of a)) 0 = c.result ∙ ap (result_of call.result_room) e in
@@ -152,13 +159,6 @@ module _ (entry : Entry) (call : Call) (count : ℕ) (Q S : List ℕ) (c : Contr
         words = words;
         sorts = words-sorted a.model a.how a.folded wf p.folds Q back;
         keeps = λ h α faithful. words_keep a.model a.how a.folded wf p.folds Q back a.how.reading α (demand3_of_call house entry call a e h α faithful);
-        looked = let figure = back.figures 2 (omega arith) in omega (arith, figure, looked_of_call house entry call a e);
-        standard = λ asks.
-            let s = standard_of_call house entry call a e asks in
-            record {
-              passed = back.figures 3 (omega arith) ∙ s.passed;
-              keeps = λ replies α faithful. words_keep a.model a.how a.folded wf p.folds Q back standard α (s.sound replies α faithful).keeps;
-            };
       }
 
 pub demand_3_of-result : Demand3OfResult

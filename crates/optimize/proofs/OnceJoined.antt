@@ -38,7 +38,7 @@ use Rattle.optimize.proofs.Begun.{view-front}
 use Rattle.optimize.proofs.BareLaws.{bare_folded, bare-same}
 use Rattle.optimize.proofs.Keeps.{codes_known}
 use Rattle.optimize.proofs.RunLaws.{entries-still, folded-is}
-use Rattle.optimize.proofs.BadsJoined.{lists-fit}
+use Rattle.optimize.proofs.BadsJoined.{lists_fit}
 use Rattle.optimize.proofs.Entries.{same-entry}
 use Rattle.optimize.proofs.Copied.{copied-length, copied-before, copied-entries, view-before}
 
@@ -162,7 +162,7 @@ module _ (g dumps ss initial later ins reps : List ℕ) (mode : Mode) (R S : Lis
       T = paste S₂ third (drop 0 later) (length later)
 
       fits : third + length later ≤ length S₂
-      fits = omega (arith, lists-fit g dumps ss initial later ins reps mode R S w at count u)
+      fits = omega (arith, lists_fit g dumps ss initial later ins reps mode R S w at count u)
 
       pub once_length : length T ≡ length S
       once_length = copied-length S₂ later third fits ∙ q
@@ -187,7 +187,7 @@ module _ (g dumps ss initial later ins reps : List ℕ) (mode : Mode) (R S : Lis
           let x : Bads = record { after = view h₁ g ins reps Q (take at S₁) w₁; stay = entries_of S₁ (at + length ss) i; dropped = d₁ } in
           let f : Folded = record { state = l.state; sequentials = entries_of S at count; initial = x.stay; later = later; dropped = d₁; verdict = verdict } in
           let fewer = u.fewer in
-          let fit = lists-fit g dumps ss initial later ins reps mode R S w at count u in
+          let fit = lists_fit g dumps ss initial later ins reps mode R S w at count u in
           let first : entries_of S at count ≡ entries_of T at count = sym (entries-still S T at count (omega (arith, fit)) (omega (arith, fit, once_length)) (λ j l n. word j l (omega arith) ∙ a j l (omega arith))) in
           let second : entries_of S₁ (at + length ss) i ≡ entries_of T (at + length ss) i = sym (entries-still S₁ T (at + length ss) i (omega (arith, fit)) (omega (arith, fit, once_length)) (λ j l n. word j (omega arith) (omega arith))) in
           let bare : bare_folded f ≡ record { state = view h₁ g ins reps Q (take at T) v; sequentials = entries_of S at count; initial = x.stay; later = later; dropped = d₁; verdict = verdict } = ap (λ (τ : St). record { state = τ; sequentials = entries_of S at count; initial = x.stay; later = later; dropped = d₁; verdict = verdict }) (state_same l.state l.same) in

@@ -16,12 +16,11 @@ use Rattle.rules.specs.Walk.{St, Mark, fresh, kept, replaced}
 use Rattle.rules.specs.Whole.{Folded}
 use Rattle.rules.specs.Result.{node_words, const_words, mark_words, is_replaced, gather, question_words, listed, tally_of, result_words}
 use Rattle.rules.proofs.Base.{inside-or-past, kind-of-code}
-use Rattle.rules.proofs.Room.{question-length}
 use Rattle.rules.proofs.Flat.{gather-size, gather-at, marks_snoc, marks-size}
 use Rattle.optimize.specs.Bounds.{count_of}
 use Rattle.rules.specs.Sections.{word_of}
 use Rattle.optimize.specs.View.{node_of}
-use Rattle.optimize.specs.Demand.{after, constants_on, replacements_on, initial_on, later_on, tally_on, figure_in, list_in}
+use Rattle.optimize.specs.Demand.{after, constants_on, replacements_on, initial_on, later_on, list_in}
 
 -- ---- one section
 -- the words of a section and those after it
@@ -116,7 +115,6 @@ pub record ReadBack (m : Model) (f : Folded) (Q : List ℕ) : Type 0 where
   pub replacements : (i : ℕ) → i < count_of (replacements_on Q) → Pair (length m.table) f.state.mark (drop 1 (replacements_on Q)) i
   pub initial : list_in (initial_on Q) ≡ f.initial
   pub later : list_in (later_on Q) ≡ f.later
-  pub figures : (i : ℕ) → i < 5 → figure_in Q (1 + i) ≡ get_or (tally_of m f) i 0
 
 nine_on : (a b c d e f g h i rest : List ℕ) → flatten (a ∷ b ∷ c ∷ d ∷ e ∷ f ∷ g ∷ h ∷ i ∷ []) ++ rest ≡ a ++ (b ++ (c ++ (d ++ (e ++ (f ++ (g ++ (h ++ (i ++ rest))))))))
 unfolding flatten
@@ -136,14 +134,8 @@ module _ (m : Model) (f : Folded) (rest : List ℕ) where
   made_words = gather (2 + σ.made) n (λ k. const_words (σ.rows k))
 
   -- the words from a section on, last section first
-  abbrev from_9 : List ℕ
-  from_9 = listed (tally_of m f) ++ rest
-
-  abbrev from_8 : List ℕ
-  from_8 = (length σ.asked ∷ question_words σ.asked) ++ from_9
-
   abbrev from_7 : List ℕ
-  from_7 = listed σ.inputs ++ from_8
+  from_7 = listed σ.inputs ++ ((length σ.asked ∷ question_words σ.asked) ++ (listed (tally_of m f) ++ rest))
 
   abbrev from_6 : List ℕ
   from_6 = listed f.later ++ from_7
@@ -179,18 +171,6 @@ module _ (m : Model) (f : Folded) (rest : List ℕ) where
   on_6 : after 1 from_5 ≡ from_6
   on_6 = after_is 1 (length f.initial) f.initial from_6 (omega arith)
 
-  on_7 : after 1 from_6 ≡ from_7
-  on_7 = after_is 1 (length f.later) f.later from_7 (omega arith)
-
-  on_8 : after 1 from_7 ≡ from_8
-  on_8 = after_is 1 (length σ.inputs) σ.inputs from_8 (omega arith)
-
-  on_9 : after 4 from_8 ≡ from_9
-  on_9 = after_is 4 (length σ.asked) (question_words σ.asked) from_9 (question-length σ.asked)
-
-  figure_is : (i : ℕ) → i < 5 → get_or from_9 (1 + i) 0 ≡ get_or (tally_of m f) i 0
-  figure_is i l = let e : 1 + i ≡ suc i = omega arith in ap (λ j. get_or from_9 j 0) e ∙ get_or-append (tally_of m f) rest 0 i l
-
   row_word : (k i : ℕ) → k < n → i < 6 → word_of (n ∷ row_words ++ from_2) k i ≡ get_or (node_words (σ.rows k)) i 0
   row_word k i l h =
       let e : 1 + row_width * k + i ≡ suc (k * 6 + i) = omega arith in
@@ -216,7 +196,6 @@ module _ (m : Model) (f : Folded) (rest : List ℕ) where
   read_back =
       let three : after 2 (after 6 (n ∷ row_words ++ from_2)) ≡ from_3 = ap (after 2) on_2 ∙ on_3 in
       let five : initial_on (n ∷ row_words ++ from_2) ≡ from_5 = ap (λ ws. after 1 (after 2 ws)) three ∙ ap (after 1) on_4 ∙ on_5 in
-      let nine : tally_on (n ∷ row_words ++ from_2) ≡ from_9 = ap (λ ws. after 4 (after 1 (after 1 (after 1 ws)))) five ∙ ap (λ ws. after 4 (after 1 (after 1 ws))) on_6 ∙ ap (λ ws. after 4 (after 1 ws)) on_7 ∙ ap (after 4) on_8 ∙ on_9 in
       subst (ReadBack m f) (sym result-on) (record {
         nodes = refl;
         rows = row_is;
@@ -227,5 +206,4 @@ module _ (m : Model) (f : Folded) (rest : List ℕ) where
             (pair_is i (subst (λ ws. i < count_of ws) three l));
         initial = ap list_in five ∙ list_is f.initial from_6;
         later = ap (λ ws. list_in (after 1 ws)) five ∙ ap list_in on_6 ∙ list_is f.later from_7;
-        figures = λ i l. ap (λ ws. get_or ws (1 + i) 0) nine ∙ figure_is i l;
       })

@@ -2,21 +2,17 @@
 --     Contract          what the contracts in optimize.rt say of a call and of what it left
 --     after, list_in, worth_in     a result's words read back, section by section     Dropped    a bad state that a kept list lacks
 --     KeepsIn           what is concluded of the words        Demand3OfResult    the demand, with no premise but its own
---     StandardIn        the tally's fourth figure and the demand in the standard mode
 --     SortsIn           the sorts in the words, of every accepted call        SortsCanFail    words of which it holds, and two with another sort of which it fails
 -- What is visited, replaced, asked or dropped follows from the rules on what a call is given, never from a result: the premises are of the rules' fold.
 -- Assumes nothing.
-use Rattle.std.specs.Prelude.{ℕ, ◌+◌, ◌-◌, ◌*◌, ◌<◌, ◌≤◌, ◌≡◌, ◌⊎◌, cond, List, [], ◌∷◌, ◌++◌, length, get_or, drop, replicate, ltb, eqb}
-use Rattle.btor.specs.Operators.{Reading, standard, bit}
+use Rattle.std.specs.Prelude.{ℕ, ◌+◌, ◌-◌, ◌*◌, ◌<◌, ◌≡◌, ◌⊎◌, cond, List, [], ◌∷◌, ◌++◌, length, get_or, drop, replicate, ltb, eqb}
+use Rattle.btor.specs.Operators.{Reading, bit}
 use Rattle.rules.specs.Refusal.{done}
 use Rattle.rules.specs.Limits.{house}
 use Rattle.rules.specs.Table.{And, Node, constant, node_at, row_width}
 use Rattle.rules.specs.Model.{Model}
 use Rattle.rules.specs.Value.{Value, number, worth, value}
-use Rattle.rules.specs.Demand.{Faithful, RepliesHold}
-use Rattle.rules.specs.Tally.{visited_reads, writes}
 use Rattle.rules.specs.Call.{Entry, Call, Accepted, outcome, words_of, left, FaithfulTo, Premises}
-use Rattle.rules.specs.Standard.{AsksStandard}
 use Rattle.optimize.specs.declared.walk.Optimized.{Optimized}
 use Rattle.optimize.specs.Bounds.{count_of}
 use Rattle.optimize.specs.View.{node_of}
@@ -29,7 +25,7 @@ pub record Contract (entry : Entry) (call : Call) (r : Optimized) (Q S : List �
   pub result : Q ≡ (left house entry call).result
   pub scratch : S ≡ (left house entry call).scratch
 
--- ---- a result's words: nodes, constants, replacements, the three kept lists, inputs left, questions and the tally, "each after its count"
+-- ---- a result's words: nodes, constants, replacements, the three kept lists, "each after its count"
 -- the words after a section whose entries have so many words
 abbrev pub after : ℕ → List ℕ → List ℕ
 after width ws = drop (1 + width * count_of ws) ws
@@ -45,13 +41,6 @@ initial_on Q = after 1 (after 2 (replacements_on Q))
 
 abbrev pub later_on : List ℕ → List ℕ
 later_on Q = after 1 (initial_on Q)
-
-abbrev pub tally_on : List ℕ → List ℕ
-tally_on Q = after 4 (after 1 (after 1 (later_on Q)))
-
--- a figure of the tally, from 1
-abbrev pub figure_in : List ℕ → ℕ → ℕ
-figure_in Q i = get_or (tally_on Q) i 0
 
 -- the list that stands first in the words
 abbrev pub list_in : List ℕ → List ℕ
@@ -99,12 +88,6 @@ words_with row made = 2 ∷ 1 ∷ row ∷ 3 ∷ 0 ∷ 0 ∷ 0 ∷ 16 ∷ 11 ∷ 
 unfoldable pub SortsCanFail : Type 0
 SortsCanFail = SortsIn byte_table (words_with 11 11) × (SortsIn byte_table (words_with 11 2) → ⊥) × (SortsIn byte_table (words_with 12 11) → ⊥)
 
--- ---- "In the standard mode the figure is always 0", and the demand asks nothing of writes and is by the standard's operators
-pub record StandardIn (a : Accepted) (Q : List ℕ) : Type 0 where
-  pub passed : figure_in Q 4 ≡ 0
-  pub keeps : ((α : ℕ → Value) → Faithful standard a.model.table a.model.sequentials a.folded.state α → RepliesHold standard a.model.table α a.folded.state)
-      → (α : ℕ → Value) → Faithful standard a.model.table a.model.sequentials a.folded.state α → KeepsIn standard a.model Q α
-
 -- a call that answered `Done count` is one that the rules accept, the result holds the rules' words and zeros after them, and they keep sorts and values
 pub record Kept (entry : Entry) (call : Call) (count : ℕ) (Q : List ℕ) : Type 0 where
   pub accepted : Accepted
@@ -114,8 +97,6 @@ pub record Kept (entry : Entry) (call : Call) (count : ℕ) (Q : List ℕ) : Typ
   pub sorts : SortsIn accepted.model.table Q
   pub keeps : Premises accepted → (α : ℕ → Value) → FaithfulTo accepted α
       → KeepsIn accepted.how.reading accepted.model Q α
-  pub looked : figure_in Q 3 ≤ visited_reads accepted.model.table accepted.folded.state.mark * writes accepted.model.table
-  pub standard : AsksStandard call.mode → StandardIn accepted Q
 
 unfoldable pub Demand3OfResult : Type 0
 Demand3OfResult = (entry : Entry) (call : Call) (count : ℕ) (Q S : List ℕ) → Contract entry call (Optimized.Done count) Q S → Kept entry call count Q

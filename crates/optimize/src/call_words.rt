@@ -42,7 +42,7 @@ pub(crate) fn replies_in<'a>(given: &'a [u64], call: &CallWords) -> &'a [u64]
 }
 
 // ---- what the mode adds, a function for each part
-// Whether a mode has added a part: 1, 2, 4 or 8.
+// Whether a mode has added a part: 1, 2 or 4.
 fn adds(mode: usize, part: usize) -> bool
     requires { 0 < part }
     ensures { result ≡ adds mode part }
@@ -68,13 +68,9 @@ pub(crate) fn asks_once(call: &CallWords) -> bool
     adds(call[4], 4)
 }
 
-// Whose operators and reads it folds by: the standard's where the mode has 8, else the Rust's.
+// Whose operators and reads it folds by: the Rust's in every mode.
 pub(crate) fn reading_in(call: &CallWords) -> Reading
     ensures { reading_is result ≡ (mode_in call.now).reading }
 {
-    if adds(call[4], 8) {
-        Reading::Standard
-    } else {
-        Reading::Rust
-    }
+    Reading::Rust
 }

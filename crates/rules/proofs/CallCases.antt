@@ -79,7 +79,7 @@ pub dump-names : (dump (ascii "memory-dump" ∷ []) 1 ≡ true)
 unfolding ascii ascii_from starts_with
 dump-names = (refl, refl, refl, refl, refl, refl)
 
--- ---- mode and room: 21 words are 12, the result's first; a mode of 16 before all else, words left over before the names
+-- ---- mode and room: 21 words are 12, the result's first; a mode of 8 before all else, words left over before the names
 abbrev pub no_words : List ℕ
 no_words = replicate 6 0
 
@@ -89,11 +89,11 @@ no_names = replicate 2 0
 abbrev pub answer : ℕ → ℕ → ℕ → ℕ → Answer
 answer n s p ws = record { number = n; section = s; position = p; words = ws }
 
-pub room-limits : (optimize_model_impl 15 no_words no_names 21 22 ≡ record { answer = answer 12 8 0 0; result = replicate 21 0; scratch = replicate 22 0 })
-    × (optimize_model_impl 15 no_words no_names 22 21 ≡ record { answer = answer 12 8 1 0; result = replicate 22 0; scratch = replicate 21 0 })
-    × (optimize_model_impl 15 no_words no_names 21 21 ≡ record { answer = answer 12 8 0 0; result = replicate 21 0; scratch = replicate 21 0 })
-    × (optimize_model_impl 16 [] [] 0 0 ≡ record { answer = answer 1 0 0 0; result = []; scratch = [] })
-    × (optimize_model_impl 15 (no_words ++ no_words) [] 0 0 ≡ record { answer = answer 1 6 0 0; result = []; scratch = [] })
+pub room-limits : (optimize_model_impl 7 no_words no_names 21 22 ≡ record { answer = answer 12 8 0 0; result = replicate 21 0; scratch = replicate 22 0 })
+    × (optimize_model_impl 7 no_words no_names 22 21 ≡ record { answer = answer 12 8 1 0; result = replicate 22 0; scratch = replicate 21 0 })
+    × (optimize_model_impl 7 no_words no_names 21 21 ≡ record { answer = answer 12 8 0 0; result = replicate 21 0; scratch = replicate 21 0 })
+    × (optimize_model_impl 8 [] [] 0 0 ≡ record { answer = answer 1 0 0 0; result = []; scratch = [] })
+    × (optimize_model_impl 7 (no_words ++ no_words) [] 0 0 ≡ record { answer = answer 1 6 0 0; result = []; scratch = [] })
 unfolding left outcome judge_mode cut cut_six cut_section rows_of names_of counted_names cut_names judge_cut judge_room
 room-limits = (refl, refl, refl, refl, refl)
 
@@ -125,16 +125,15 @@ Prints i o = program (ascii i) ≡ ascii o
 -- no number, or none below 2^64, and the mode; before any section, in reading order
 pub text_reading : Prints "" "refused 1 0 0\n"
     × Prints " \r\n\t" "refused 1 0 0\n"
-    × Prints "16 x" "refused 1 0 0\n"
-    × Prints "15 x" "refused 1 0 1\n"
+    × Prints "8 x" "refused 1 0 0\n"
     × Prints "+1" "refused 1 0 0\n"
-    × Prints "15\u{b}0 0 0 0 0 0 0" "refused 1 0 0\n"
+    × Prints "7\u{b}0 0 0 0 0 0 0" "refused 1 0 0\n"
     × Prints "0 5000 1,2" "refused 1 0 2\n"
     × Prints "0 18446744073709551615" "refused 2 1 0\n"
     × Prints "0 18446744073709551616" "refused 1 0 1\n"
     × Prints "0 36893488147419103232" "refused 1 0 1\n"
 unfolding Prints ascii ascii_from tokens_after all_digits decimal_from number_of judge_token numbers_from numbers cut_section rows_of cut_six cut_names counted_names all_bytes all_name_bytes names_in_numbers judge_mode after_numbers text_outcome decimal_of blanked
-text_reading = (refl, refl, refl, refl, refl, refl, refl, refl, refl, refl)
+text_reading = (refl, refl, refl, refl, refl, refl, refl, refl, refl)
 
 -- at place 4,096 everything is refused, and at the place before it a number is taken
 pub text_most : ((t : List ℕ) (ts : List (List ℕ)) → numbers_from 4096 (t ∷ ts) ≡ refuse 2 0 4096)
@@ -173,7 +172,7 @@ open_noon =
     }
 
 -- empty tables pass with 22 words; with_solver leaves out the input and with_input the reply, and both need the room of the table as given
-pub accepted_calls : (optimize_model_impl 15 no_words no_names 22 22
+pub accepted_calls : (optimize_model_impl 7 no_words no_names 22 22
     ≡ record { answer = answer 0 0 0 18; result = 0 ∷ 2 ∷ 1 ∷ 0 ∷ 1 ∷ 1 ∷ 0 ∷ 0 ∷ 0 ∷ 0 ∷ 0 ∷ 0 ∷ 5 ∷ 0 ∷ 0 ∷ 0 ∷ 0 ∷ 3 ∷ 0 ∷ 0 ∷ 0 ∷ 0 ∷ []; scratch = replicate 22 0 })
     × (optimize_model_with_solver 0 (noon_rows ++ (0 ∷ 1 ∷ 3 ∷ 0 ∷ 1 ∷ 12 ∷ 0 ∷ [])) noon_names 120 120 ≡ open_noon)
     × (optimize_model_with_input (noon_rows ++ (0 ∷ 1 ∷ 3 ∷ 0 ∷ 0 ∷ 1 ∷ 1 ∷ [])) noon_names 120 120 ≡ open_noon)

@@ -13,15 +13,11 @@ use Rattle.rules.specs.Result.{gather, question_words, result_words}
 use Rattle.rules.specs.Sections.{rows_words, encode, cut_section, rows_of, cut_six, cut}
 use Rattle.rules.specs.Names.{cut_names, counted_names, names_of, starts_with}
 use Rattle.rules.specs.Call.{judge_mode, judge_room, judge_and_fold, judge_cut, outcome}
-use Rattle.rules.specs.Cases.{NoonCases, StandardCases, NoonExample, UltAtEquality, OneBranch, PastUnsettled, OwnConstant, TrueBadStays, UnaskedUnjudged}
+use Rattle.rules.specs.Cases.{NoonCases, NoonExample, UltAtEquality, OneBranch, PastUnsettled, OwnConstant, TrueBadStays, UnaskedUnjudged}
 
 pub noon_cases : NoonCases
 unfolding NoonCases UltAtEquality PastUnsettled outcome judge_mode encode rows_words cut cut_six cut_section rows_of names_of counted_names cut_names starts_with judge_cut judge_room judge_and_fold run check check_nodes check_sequentials check_bads result_words gather sum question_words fold fold_bads judge_bads judge_sequentials visit_all ask compute signed_div complement width ones visit process settle finish finish_stay unary binary visit1 visit2 visit3 ite_on take_input forward find look_at
 noon_cases = (refl, refl, refl, refl, refl, refl, refl, refl, refl, refl, refl, refl, refl)
-
-pub standard_cases : StandardCases
-unfolding StandardCases outcome judge_mode encode rows_words cut cut_six cut_section rows_of names_of counted_names cut_names starts_with judge_cut judge_room judge_and_fold run check check_nodes check_sequentials check_bads result_words gather sum question_words fold fold_bads judge_bads judge_sequentials visit_all ask compute signed_div complement width ones visit process settle finish finish_stay unary binary visit1 visit2 visit3 ite_on take_input forward find look_at
-standard_cases = (refl, refl, refl, refl, refl, refl, refl, refl, refl, refl, refl, refl, refl, refl, refl, refl, refl, refl)
 
 pub noon-example : NoonExample
 unfolding NoonExample run check check_nodes check_sequentials check_bads width result_words gather sum question_words fold fold_bads judge_bads judge_sequentials visit_all last_question ask ask_or visit process settle finish finish_stay unary binary visit1 visit2 visit3 ite_on take_input forward find look_at

@@ -1,7 +1,7 @@
 -- Demand 3: the values after a fold, and that it keeps them; and what the operands of the rewritten rows are worth.
 -- The numbers of a result are worth, for good, what Demand's worth_of says at the end of the fold; Whole's account is read off there.
 -- Assumes nothing.
-use Prim.Native.Nat.{ℕ, ◌+◌, ◌<◌, ◌≤◌}
+use Prim.Native.Nat.{ℕ, ◌+◌, ◌<◌}
 use mathlib.Core.Path.{◌≡◌, refl, sym, ap, ap₂, ◌∙◌, subst}
 use mathlib.Core.Bool.{cond}
 use mathlib.Core.Option.{Option, none, some}
@@ -22,8 +22,8 @@ use Rattle.rules.specs.Visit.{Ways}
 use Rattle.rules.specs.Whole.{ways_of, Folded, fold, run}
 use Rattle.rules.specs.Demand.{Assigns, SameInit, NonePassed, RepliesHold, worth_of, Faithful, Keeps, Demand3OfFold, Demand3}
 use Rattle.rules.specs.Laws.{RowKeeps, OperandsWorth, OperandsKept}
-use Rattle.rules.specs.Fine.{Strict, Shares}
-use Rattle.rules.proofs.Base.{If, all_map, is-kind, inside-or-past}
+use Rattle.rules.specs.Fine.{Strict}
+use Rattle.rules.proofs.Base.{If, all_map, is-kind}
 use Rattle.rules.proofs.Check.{accepted}
 use Rattle.rules.proofs.Legal.{state_ok}
 use Rattle.rules.proofs.Values.{meaning-same, meaning-own, value-is, value-fits}
@@ -51,15 +51,6 @@ module _ (how : Reading) (t : List Node) (α : ℕ → Value) (σ : St) where
   unfolding worth_of
   worth-made r h =
       simp (le-ltb r (length t) (omega arith), ne_eqb r (length t) (λ e. omega arith), ne_eqb r (length t + 1) (λ e. omega arith))
-
-  -- so any constant is worth its row's number
-  pub worth-new : Shares t σ.rows σ.made → (r : ℕ) → length t ≤ r → worth_of how t α σ r ≡ number (σ.rows r).a
-  worth-new shares r l =
-      inside-or-past (worth_of how t α σ r ≡ number (σ.rows r).a) r (length t + 1)
-      (λ i. let q : length t ≡ r = omega arith in subst (λ k. worth_of how t α σ k ≡ number (σ.rows k).a) q (worth-false ∙ sym (ap (λ (nd : Node). number nd.a) shares.false!)))
-      (λ i. inside-or-past (worth_of how t α σ r ≡ number (σ.rows r).a) r (length t + 2)
-      (λ j. let q : length t + 1 ≡ r = omega arith in subst (λ k. worth_of how t α σ k ≡ number (σ.rows k).a) q (worth-true ∙ sym (ap (λ (nd : Node). number nd.a) shares.true!)))
-      (λ j. worth-made r (omega arith)))
 
   module _ (legal : AllLegal t) (fits : Assigns t α) where
     the_env : (ways : Ways) → ways.reading ≡ how → Env t ways (worth_of how t α σ)

@@ -36,7 +36,6 @@ pub mod Label
 pub mod Text
 pub mod Reader
 pub mod Call
-pub mod Standard
 pub mod Faithful
 pub mod Worked
 pub mod CallCases

@@ -107,14 +107,15 @@ module _ (t : List Node) (legal : AllLegal t) (σ : St) (shape : Shape t σ.rows
   sorts k (x ∷ xs) [] h = absurd h
   sorts k (x ∷ xs) (o ∷ os) h = (stands_sort t σ.rows σ.made σ.mark shape x (node_at t o).sort h.0.1, sorts k xs os h.1)
 
-  pub node-sorted : (k : ℕ) → k < length t → SameNode (σ.rows k) (node_at t k) → All (λ b. b ≡ true) (sorted_as σ.rows (σ.rows k).kind (σ.rows k))
-  node-sorted k l s =
+  node-five : (k : ℕ) → k < length t → SameNode (σ.rows k) (node_at t k) → rule5_at σ.rows (σ.rows k) ≡ true
+  node-five k l s =
       let nd : Node = σ.rows k in
       let g : Node = node_at t k in
-      subst (All (λ b. b ≡ true))
+      five-holds σ.rows nd (serves k (operands nd) (operands g) (shape.refs k l))
+      (subst (All (λ b. b ≡ true))
       (sym (ap (λ K. sorted_as σ.rows K nd) s.kind
       ∙ same-sorts σ.rows (node_at t) g.kind nd g (but_operands nd g s) refl state (subst (λ K. SortsLike σ.rows (node_at t) (operands_as K nd) (operands g)) s.kind (sorts k (operands nd) (operands g) (shape.refs k l)))))
-      (legal k l).sorts
+      (legal k l).sorts)
     where
       -- a Next's state is not rewritten, and stays a State
       state : is Next (node_at t k) ≡ true → is State (σ.rows (σ.rows k).a) ≡ is State (node_at t (node_at t k).a)
@@ -122,9 +123,6 @@ module _ (t : List Node) (legal : AllLegal t) (σ : St) (shape : Shape t σ.rows
           let g : Node = node_at t k in
           let b = (subst (λ K. All (λ x. x < k) (operands_as K g)) (is-kind Next g q) (legal k l).before).0 in
           ap (λ x. is State (σ.rows x)) (s.state q) ∙ ap (λ K. eqb (kind_code K) (kind_code State)) (shape.alike g.a (omega (arith, b, l))).kind
-
-  node-five : (k : ℕ) → k < length t → SameNode (σ.rows k) (node_at t k) → rule5_at σ.rows (σ.rows k) ≡ true
-  node-five k l s = five-holds σ.rows (σ.rows k) (serves k (operands (σ.rows k)) (operands (node_at t k)) (shape.refs k l)) (node-sorted k l s)
 
 -- a constant's row
 const-three : (names s x : ℕ) → known_sort s ≡ true → rule3 names (coded (constant s x)) ≡ true

@@ -22,7 +22,7 @@ use Rattle.rules.specs.Demand.{Assigns}
 use Rattle.rules.proofs.Base.{cases_cond, all_map}
 use Rattle.btor.specs.Standard.{nat2bv, ite, Truth, IsTrue}
 use Rattle.btor.specs.Agreement.{ChoiceAgrees}
-use Rattle.btor.proofs.Agreement.{choice-agrees}
+use Rattle.btor.proofs.Agreement.{choice_agrees}
 use Rattle.btor.proofs.Laws.{compute-fits}
 use Rattle.rules.proofs.Words.{complement-fits, fits_word, width-bit, width_word}
 
@@ -49,7 +49,7 @@ meaning-same how Bad nd u v own h = h.0
 pub ite-agrees : (how : Reading) (v : ℕ → Value) (own : Value) (nd : Node) (t : Bool) → num (v nd.a) < 2 ^ 1 → Truth t (IsTrue (nat2bv (num (v nd.a))))
     → meaning how Ite v own nd ≡ ite t (v nd.b) (v nd.c)
 unfolding ChoiceAgrees
-ite-agrees how v own nd = choice-agrees Value (num (v nd.a)) (v nd.b) (v nd.c)
+ite-agrees how v own nd = choice_agrees Value (num (v nd.a)) (v nd.b) (v nd.c)
 
 -- what the assignment gives is the node's own value, where it matters
 pub meaning-own : (how : Reading) (K : Kind) (v : ℕ → Value) (own w : Value) (nd : Node) → meaning how K v own nd ≡ w → meaning how K v w nd ≡ w

@@ -1,6 +1,6 @@
--- The four calls at work: their premises by computation, the rest by demand 3 and by the assignment that every accepted call has.
+-- The three calls at work: their premises by computation, the rest by demand 3 and by the assignment that every accepted call has.
 -- Assumes nothing.
-use Prim.Native.Nat.{ℕ, ◌-◌, ◌<◌, ◌≤◌, ◌^◌}
+use Prim.Native.Nat.{ℕ, ◌<◌, ◌≤◌, ◌^◌}
 use mathlib.Core.Path.{◌≡◌, refl, sym, ap, ◌∙◌, subst}
 use mathlib.Core.Logic.{◌≢◌}
 use mathlib.Core.Bool.{true, false}
@@ -9,7 +9,7 @@ use native.Mathlib.Omega.{arith}
 use lib.ListN.{get_or}
 use lib.Dec.{eqb, lit<}
 use borrow.Author.Tests.{eqb-true, le-ltb}
-use Rattle.btor.specs.Operators.{Reading, rust, standard, compute, signed_div, both, complement, choose, less, bit}
+use Rattle.btor.specs.Operators.{Reading, rust, compute, both, complement, choose, less, bit}
 use Rattle.btor.specs.Sorts.{width, ones, word_code}
 use Rattle.rules.specs.Lists.{All}
 use Rattle.rules.specs.Refusal.{Out, refused, done, OfDone}
@@ -26,14 +26,12 @@ use Rattle.rules.specs.Limits.{Limits, house}
 use Rattle.rules.specs.Sections.{rows_words, encode, cut_section, rows_of, cut_six, cut}
 use Rattle.rules.specs.Names.{cut_names, counted_names, names_of, starts_with}
 use Rattle.rules.specs.Call.{Call, Entry, impl, Accepted, judge_mode, judge_room, judge_and_fold, judge_cut, outcome, FaithfulTo, HoldIn, value_in, Premises, Demand3OfCall, OperandsOfCall, FaithfulOfCall}
-use Rattle.rules.specs.Standard.{StandardOfCall}
 use Rattle.rules.specs.Cases.{row}
-use Rattle.rules.specs.Worked.{Follows, Replaced, replaced_rows, replaced_held, replaced_asked, replaced_call, ReplacedWorked, several_rows, several_asked, several_call, Several, SeveralWorked, Stepped, stepped_rows, stepped_call, SteppedWorked, standard_rows, standard_in, standard_asked, ByStandard, StandardWorked}
+use Rattle.rules.specs.Worked.{Follows, Replaced, replaced_rows, replaced_held, replaced_asked, replaced_call, ReplacedWorked, several_rows, several_asked, several_call, Several, SeveralWorked, Stepped, stepped_rows, stepped_call, SteppedWorked}
 use Rattle.btor.proofs.Agreement.{cases}
 use Rattle.rules.proofs.Words.{width_word}
 use Rattle.rules.proofs.Call.{demand3_of_call, operands_of_call}
 use Rattle.rules.proofs.Faithful.{some-assigns, faithful_of_call}
-use Rattle.rules.proofs.Standard.{standard_of_call}
 
 -- ---- demand 3, of a call that meets its premises and whose node 0 is a word that is not replaced
 abbrev Free : Accepted → Type 0
@@ -104,10 +102,10 @@ module _ (ks : List ℕ) (r : ℕ) (f : Facts) (a : Accepted) (e : facts_of ks r
   of-call : (P : Reading → List Node → Type 0) → P f.reading f.table → P a.how.reading a.model.table
   of-call P = subst (λ x. P x.reading x.table) (sym e)
 
-  presumed : NonePassed f.reading a.folded → ((α : ℕ → Value) → Faithful f.reading f.table f.given σ α → All (Holds (worth_of f.reading f.table α σ)) f.asked) → Premises a
-  presumed none claims =
+  presumed : f.reading ≡ rust → f.passed ≡ 0 → ((α : ℕ → Value) → Faithful f.reading f.table f.given σ α → All (Holds (worth_of f.reading f.table α σ)) f.asked) → Premises a
+  presumed how none claims =
       record {
-        passed = subst (λ how. NonePassed how a.folded) (sym (ap (λ x. x.reading) e)) none;
+        passed = subst (λ how. NonePassed how a.folded) (sym (ap (λ x. x.reading) e ∙ how)) (ap (λ x. x.passed) e ∙ none);
         replies = λ α h.
             let told = claims α (subst (λ x. Faithful x.reading x.table x.given σ α) e h) in
             subst (λ x. All (Holds (worth_of x.reading x.table α σ)) x.asked) (sym e) told;
@@ -128,9 +126,9 @@ module _ (ks : List ℕ) (r : ℕ) (f : Facts) (a : Accepted) (e : facts_of ks r
 
 -- what holds of every call with these facts holds of the call that has them
 of-facts : (ks : List ℕ) (r : ℕ) (f : Facts) (P : Accepted → Type 0) (call : Call) (o : Out Accepted) → outcome house impl call ≡ o → OfDone (λ a. facts_of ks r a ≡ f) o
-    → ((a : Accepted) → facts_of ks r a ≡ f → Premises a) → ((a : Accepted) → facts_of ks r a ≡ f → Free a) → ((a : Accepted) → outcome house impl call ≡ done a → facts_of ks r a ≡ f → Premises a → Follows a → P a) → OfDone P o
+    → ((a : Accepted) → facts_of ks r a ≡ f → Premises a) → ((a : Accepted) → facts_of ks r a ≡ f → Free a) → ((a : Accepted) → facts_of ks r a ≡ f → Premises a → Follows a → P a) → OfDone P o
 of-facts ks r f P call (refused w) q e premises free then = e
-of-facts ks r f P call (done a) q e premises free then = then a q e (premises a e) (follows house impl call (done a) q (premises a e) (free a e))
+of-facts ks r f P call (done a) q e premises free then = then a e (premises a e) (follows house impl call (done a) q (premises a e) (free a e))
 
 -- a number is below none that is not above it
 not-below : (x y : ℕ) → y ≤ x → number (bit (less x y)) ≡ number 0
@@ -203,7 +201,7 @@ module _ (a : Accepted) (e : facts_of replaced_marked 16 a ≡ replaced_facts) w
         (no, (no, ((λ _. below), ((λ _. both-not), ((λ _. chosen), (no, ((λ _. chosen_below), (no, ((λ _. below-taken), tt)))))))))
 
   replaced-premises : Premises a
-  replaced-premises = presumed replaced_marked 16 replaced_facts a e (ap (λ x. x.passed) e) claims
+  replaced-premises = presumed replaced_marked 16 replaced_facts a e refl refl claims
 
   replaced-free : Free a
   replaced-free = unreplaced replaced_marked 16 replaced_facts a e refl ((λ _ z. omega (arith, z)), tt) ((λ z. omega (arith, z)), tt)
@@ -248,7 +246,7 @@ module _ (a : Accepted) (e : facts_of replaced_marked 16 a ≡ replaced_facts) w
 
 pub replaced-worked : ReplacedWorked
 unfolding ReplacedWorked
-replaced-worked = of-facts replaced_marked 16 replaced_facts Replaced replaced_call (outcome house impl replaced_call) refl replaced_computed replaced-premises replaced-free (λ a q. replaced-from a)
+replaced-worked = of-facts replaced_marked 16 replaced_facts Replaced replaced_call (outcome house impl replaced_call) refl replaced_computed replaced-premises replaced-free replaced-from
 
 -- ---- the second
 abbrev several_facts : Facts
@@ -280,7 +278,7 @@ module _ (a : Accepted) (e : facts_of (2 ∷ []) 9 a ≡ several_facts) where
   several-claims α = ((λ _. (not-below (num (α 0)) 0 (omega arith), (not-below (num (α 0)) (num (α 0)) (omega arith), tt))), tt)
 
   several-premises : Premises a
-  several-premises = presumed (2 ∷ []) 9 several_facts a e (ap (λ x. x.passed) e) (λ α f. several-claims α)
+  several-premises = presumed (2 ∷ []) 9 several_facts a e refl refl (λ α f. several-claims α)
 
   several-free : Free a
   several-free = unreplaced (2 ∷ []) 9 several_facts a e refl tt tt
@@ -312,7 +310,7 @@ module _ (a : Accepted) (e : facts_of (2 ∷ []) 9 a ≡ several_facts) where
 
 pub several-worked : SeveralWorked
 unfolding SeveralWorked
-several-worked = of-facts (2 ∷ []) 9 several_facts Several several_call (outcome house impl several_call) refl several_computed several-premises several-free (λ a q. several-from a)
+several-worked = of-facts (2 ∷ []) 9 several_facts Several several_call (outcome house impl several_call) refl several_computed several-premises several-free several-from
 
 -- ---- the third
 abbrev stepped_facts : Facts
@@ -343,7 +341,7 @@ module _ (a : Accepted) (e : facts_of (6 ∷ []) 8 a ≡ stepped_facts) where
   stepped_claims α = ((λ z. let o : ⊥ = omega (arith, z) in absurd o), tt)
 
   stepped_premises : Premises a
-  stepped_premises = presumed (6 ∷ []) 8 stepped_facts a e (ap (λ x. x.passed) e) (λ α f. stepped_claims α)
+  stepped_premises = presumed (6 ∷ []) 8 stepped_facts a e refl refl (λ α f. stepped_claims α)
 
   stepped_free : Free a
   stepped_free = unreplaced (6 ∷ []) 8 stepped_facts a e refl ((λ _ z. omega (arith, z)), tt) tt
@@ -370,93 +368,4 @@ module _ (a : Accepted) (e : facts_of (6 ∷ []) 8 a ≡ stepped_facts) where
 
 pub stepped_worked : SteppedWorked
 unfolding SteppedWorked
-stepped_worked = of-facts (6 ∷ []) 8 stepped_facts Stepped stepped_call (outcome house impl stepped_call) refl stepped_computed stepped_premises stepped_free (λ a q. stepped_from a)
-
--- ---- the fourth
-abbrev standard_facts : Facts
-standard_facts =
-    record {
-      reading = standard;
-      table = map decode standard_rows;
-      given = [];
-      sequentials = [];
-      initial = 17 ∷ [];
-      later = [];
-      dropped = 15 ∷ 16 ∷ [];
-      verdict = 0;
-      held = [];
-      asked = standard_asked;
-      looked = 3;
-      passed = 0;
-      marks = replaced 2 ∷ replaced 20 ∷ [];
-      row = constant word_code (2 ^ 64 - 1);
-    }
-
-abbrev standard_marked : List ℕ
-standard_marked = 8 ∷ 10 ∷ []
-
-standard_computed : OfDone (λ a. facts_of standard_marked 20 a ≡ standard_facts) (outcome house impl (standard_in 9))
-unfolding compute signed_div outcome judge_mode encode rows_words cut cut_six cut_section rows_of names_of counted_names cut_names judge_cut judge_room starts_with judge_and_fold run check check_nodes check_sequentials check_bads width ones fold fold_bads judge_bads judge_sequentials visit_all ask ask_or visit process forward find look_at settle finish finish_stay unary binary visit1 visit2 visit3 take_input
-standard_computed = refl {a = standard_facts}
-
-module _ (a : Accepted) (e : facts_of standard_marked 20 a ≡ standard_facts) where
-  standard-claims : (α : ℕ → Value) → All (Holds (worth_of standard (map decode standard_rows) α a.folded.state)) standard_asked
-  unfolding value over over_in worth_of
-  standard-claims α = (no, ((λ _. not-below (num (α 0)) (num (α 0)) (omega arith)), (no, (no, ((λ z. let o : ⊥ = omega (arith, z) in absurd o), tt)))))
-
-  standard-premises : Premises a
-  standard-premises = presumed standard_marked 20 standard_facts a e tt (λ α f. standard-claims α)
-
-  standard-free : Free a
-  standard-free = unreplaced standard_marked 20 standard_facts a e refl tt tt
-
-  module _ (follow : Follows a) (α : ℕ → Value) (f : FaithfulTo a α) where
-    standard-kept : Keeps standard (map decode standard_rows) a.folded α
-    standard-kept = keeps standard_marked 20 standard_facts a e follow α f
-
-    standard-values : (value_in a α 8 ≡ number 5) × (value_in a α 10 ≡ number (2 ^ 64 - 1)) × (value_in a α 11 ≡ number 5)
-    unfolding value over over_in worth_of compute
-    standard-values =
-        of-call standard_marked 20 standard_facts a e (λ how t. (value how (node_at t) α 8 ≡ number 5) × (value how (node_at t) α 10 ≡ number (2 ^ 64 - 1)) × (value how (node_at t) α 11 ≡ number 5)) (
-          sym (standard-kept.replacements 8 2 (lit< tt) (mark_is standard_marked 20 standard_facts a e 0)),
-          sym (standard-kept.replacements 10 20 (lit< tt) (mark_is standard_marked 20 standard_facts a e 1)) ∙ ap (λ x. number x.row.a) e,
-          refl,
-        )
-
-    standard-conditions : (value_in a α 12 ≡ number 0) × (value_in a α 13 ≡ number 0)
-    standard-conditions =
-        let gone = subst (All (λ b. value standard (node_at (map decode standard_rows)) α (node_at (map decode standard_rows) b).a ≡ number 0)) (ap (λ x. x.dropped) e) standard-kept.dropped in
-        of-call standard_marked 20 standard_facts a e (λ how t. (value how (node_at t) α 12 ≡ number 0) × (value how (node_at t) α 13 ≡ number 0)) (gone.0, gone.1.0)
-
-  standard-from : outcome house impl (standard_in 9) ≡ done a → Premises a → Follows a → ByStandard a
-  unfolding StandardOfCall
-  standard-from q premises follow =
-      record {
-        initial = ap (λ x. x.initial) e;
-        dropped = ap (λ x. x.dropped) e;
-        asked = ap (λ x. x.asked) e;
-        looked = ap (λ x. x.looked) e;
-        premises = premises;
-        follows = follow;
-        standard = standard_of_call house impl (standard_in 9) a q refl;
-        values = standard-values follow;
-        conditions = standard-conditions follow;
-      }
-
--- without the 8
-rust_passes : OfDone (λ a. (a.how.reading ≡ rust) × (a.folded.state.passed ≡ 1)) (outcome house impl (standard_in 1))
-unfolding compute signed_div outcome judge_mode encode rows_words cut cut_six cut_section rows_of names_of counted_names cut_names judge_cut judge_room starts_with judge_and_fold run check check_nodes check_sequentials check_bads width ones fold fold_bads judge_bads judge_sequentials visit_all ask ask_or visit process forward find look_at settle finish finish_stay unary binary visit1 visit2 visit3 take_input
-rust_passes = (refl, refl)
-
-rust_presumes : (o : Out Accepted) → OfDone (λ a. (a.how.reading ≡ rust) × (a.folded.state.passed ≡ 1)) o → OfDone (λ a. Premises a → ⊥) o
-rust_presumes (refused r) h = h
-rust_presumes (done a) h = λ p.
-    let z : a.folded.state.passed ≡ 0 = subst (λ how. NonePassed how a.folded) h.0 p.passed in
-    omega (arith, z, h.1)
-
-pub standard-worked : StandardWorked
-unfolding StandardWorked
-standard-worked = (
-  of-facts standard_marked 20 standard_facts ByStandard (standard_in 9) (outcome house impl (standard_in 9)) refl standard_computed standard-premises standard-free (λ a q e. standard-from a e q),
-  rust_presumes (outcome house impl (standard_in 1)) rust_passes,
-)
+stepped_worked = of-facts (6 ∷ []) 8 stepped_facts Stepped stepped_call (outcome house impl stepped_call) refl stepped_computed stepped_premises stepped_free stepped_from

@@ -28,7 +28,7 @@ pub record Call : Type 0 where
   pub scratch_room : ℕ
 
 -- ---- the stages, in order
--- refusal 1: "a mode above 15 (section 0)", position 0
+-- refusal 1: "a mode above 7 (section 0)", position 0
 unfoldable pub judge_mode : ℕ → Out Mode
 judge_mode mode = elim (ltb highest_mode mode) [ true ↦ refuse 1 0 0 | false ↦ done (mode_of mode) ]
 
@@ -186,7 +186,7 @@ HoldIn a α = RepliesHold a.how.reading a.model.table α a.folded.state
 abbrev pub value_in : Accepted → (ℕ → Value) → ℕ → Value
 value_in a α k = value a.how.reading (node_at a.model.table) α k
 
--- its two premises, by the mode's reading: of writes the standard's asks nothing (NonePassed)
+-- its two premises
 pub record Premises (a : Accepted) : Type 0 where
   pub passed : NonePassed a.how.reading a.folded
   pub replies : (α : ℕ → Value) → FaithfulTo a α → HoldIn a α

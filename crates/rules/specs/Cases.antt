@@ -1,14 +1,13 @@
 -- Worked cases of the rules (docs/FORMAT.md, "Operators", "Reads", "Noon, by hand").
 --     NoonCases     operators and a Read past an unsettled Write, of accepted calls: the constants made, what is replaced, and the two counts of writes
---     StandardCases where the standard mode differs, and where not
 --     NoonExample   the example's nine result sections
 --     OneBranch and after, UltAtEquality, PastUnsettled    what looks right and is wrong, each on a small table
 -- Assumes nothing.
-use Rattle.std.specs.Prelude.{ℕ, ◌+◌, ◌-◌, ◌^◌, ◌≡◌, false, List, [], ◌∷◌, length, get_or}
+use Rattle.std.specs.Prelude.{ℕ, ◌-◌, ◌^◌, ◌≡◌, false, List, [], ◌∷◌, length, get_or}
 use Rattle.btor.specs.Sorts.{bit_code, word_code, memory_code}
-use Rattle.btor.specs.Operators.{Op, rust, Add, Sub, Mul, Divu, Div, Rem, Sll}
+use Rattle.btor.specs.Operators.{Op, rust, Add, Sub, Mul, Div, Rem, Sll}
 use Rattle.rules.specs.Refusal.{Out, done, refused}
-use Rattle.rules.specs.Table.{Kind, Const, Read, Write, Word, Ult, Ite, Eq, And, Not, State, Next, Input, Bad, Row, Node, constant, kind_code}
+use Rattle.rules.specs.Table.{Kind, Const, Read, Write, Word, Ult, Ite, Eq, And, Not, State, Input, Bad, Row, Node, constant, kind_code}
 use Rattle.rules.specs.Model.{Model, Mode, model_of}
 use Rattle.rules.specs.Walk.{St, start}
 use Rattle.rules.specs.Visit.{Ways, visit_top}
@@ -27,8 +26,8 @@ abbrev pub call_of : ℕ → Sections → Call
 call_of mode s = record { mode = mode; words = encode s; names = 1 ∷ 0 ∷ 0 ∷ []; result_room = need_of s; scratch_room = need_of s }
 
 -- one bad, the table's last row, and no input or reply
-abbrev pub call_on : ℕ → List Row → Call
-call_on mode rs = call_of mode (record { rows = rs; sequentials = []; initial = (length rs - 1) ∷ []; later = []; inputs = []; replies = [] })
+abbrev pub call_on : List Row → Call
+call_on rs = call_of 0 (record { rows = rs; sequentials = []; initial = (length rs - 1) ∷ []; later = []; inputs = []; replies = [] })
 
 -- the sections of made constants, of replacements and of the tally, of a call that is accepted
 abbrev pub told : Out Accepted → List (List ℕ)
@@ -36,8 +35,8 @@ told (refused r) = []
 told (done a) = let r : List (List ℕ) = sections_of a in get_or r 1 [] ∷ get_or r 2 [] ∷ get_or r 8 [] ∷ []
 
 -- the constants made after the shared two (each a sort and a number), what replaces which node, and the counts of writes looked at and passed
-abbrev pub Tells : ℕ → List Row → List ℕ → List ℕ → ℕ → ℕ → Type 0
-Tells mode rs made replacements l p = told (outcome house impl (call_on mode rs)) ≡ made ∷ replacements ∷ (5 ∷ 0 ∷ 0 ∷ l ∷ p ∷ 0 ∷ []) ∷ []
+abbrev pub Tells : List Row → List ℕ → List ℕ → ℕ → ℕ → Type 0
+Tells rs made replacements l p = told (outcome house impl (call_on rs)) ≡ made ∷ replacements ∷ (5 ∷ 0 ∷ 0 ∷ l ∷ p ∷ 0 ∷ []) ∷ []
 
 -- no constant is made, or one of sort s
 abbrev pub none_made : List ℕ
@@ -54,76 +53,35 @@ only k r = 1 ∷ k ∷ r ∷ []
 abbrev pub on_two : Kind → ℕ → ℕ → ℕ → List Row
 on_two K s x y = row Const s x 0 0 0 ∷ row Const s y 0 0 0 ∷ row K s 0 1 0 0 ∷ row Input s 0 0 0 1 ∷ row Eq bit_code 2 3 0 0 ∷ row Bad bit_code 4 0 0 0 ∷ []
 
-abbrev pub Gives : ℕ → Op → ℕ → ℕ → ℕ → Type 0
-Gives mode op x y r = Tells mode (on_two (Word op) word_code x y) (one_made word_code r) (only 2 8) 0 0
+abbrev pub Gives : Op → ℕ → ℕ → ℕ → Type 0
+Gives op x y r = Tells (on_two (Word op) word_code x y) (one_made word_code r) (only 2 8) 0 0
 
 -- Ult of 12 and 12: it is the shared false
 unfoldable pub UltAtEquality : Type 0
-UltAtEquality = Tells 0 (row Const word_code 12 0 0 0 ∷ row Const word_code 12 0 0 0 ∷ row Ult bit_code 0 1 0 0 ∷ row Bad bit_code 2 0 0 0 ∷ []) none_made (only 2 4) 0 0
+UltAtEquality = Tells (row Const word_code 12 0 0 0 ∷ row Const word_code 12 0 0 0 ∷ row Ult bit_code 0 1 0 0 ∷ row Bad bit_code 2 0 0 0 ∷ []) none_made (only 2 4) 0 0
 
--- 7 written at 5, then 9 written at one node over a memory, and node k read: the Writes are 6 and 7, the Read is 8
-abbrev pub forwarding : ℕ → ℕ → List Row
-forwarding k address =
-    row Const word_code 5 0 0 0 ∷ row Const word_code 7 0 0 0 ∷ row Input word_code 0 0 0 1 ∷ row Const word_code 9 0 0 0 ∷ row Const word_code 8 0 0 0
-    ∷ row State memory_code 0 0 0 0 ∷ row Write memory_code 5 0 1 0 ∷ row Write memory_code 6 address 3 0
-    ∷ row Read word_code 7 k 0 0 ∷ row Eq bit_code 8 2 0 0 ∷ row Bad bit_code 9 0 0 0 ∷ []
-
--- 9 at an Input, and 5 read: the read is node 1, the 7 below the unsettled write
+-- 7 written at 5, then 9 at an Input, and 5 read: the read is node 1, the 7 below the unsettled write
 unfoldable pub PastUnsettled : Type 0
-PastUnsettled = Tells 0 (forwarding 0 2) none_made (only 8 1) 2 1
+PastUnsettled =
+    Tells (row Const word_code 5 0 0 0 ∷ row Const word_code 7 0 0 0 ∷ row Input word_code 0 0 0 1 ∷ row Const word_code 9 0 0 0
+    ∷ row State memory_code 0 0 0 0 ∷ row Write memory_code 4 0 1 0 ∷ row Write memory_code 5 2 3 0
+    ∷ row Read word_code 6 0 0 0 ∷ row Eq bit_code 7 2 0 0 ∷ row Bad bit_code 8 0 0 0 ∷ []) none_made (only 7 1) 2 1
 
 unfoldable pub NoonCases : Type 0
 NoonCases =
-    Gives 0 Add (2 ^ 64 - 1) 1 0
-    × Gives 0 Sub 0 1 (2 ^ 64 - 1)
-    × Gives 0 Mul (2 ^ 32) (2 ^ 32) 0
-    × Gives 0 Div (2 ^ 64 - 7) 2 (2 ^ 64 - 3)
-    × Gives 0 Div 5 0 (2 ^ 63 - 1)
-    × Gives 0 Div (2 ^ 63) (2 ^ 64 - 1) (2 ^ 63 - 1)
-    × Gives 0 Rem 5 0 (2 ^ 64 - 1)
-    × Gives 0 Sll 1 63 (2 ^ 63)
-    × Gives 0 Sll 1 64 0
+    Gives Add (2 ^ 64 - 1) 1 0
+    × Gives Sub 0 1 (2 ^ 64 - 1)
+    × Gives Mul (2 ^ 32) (2 ^ 32) 0
+    × Gives Div (2 ^ 64 - 7) 2 (2 ^ 64 - 3)
+    × Gives Div 5 0 (2 ^ 63 - 1)
+    × Gives Div (2 ^ 63) (2 ^ 64 - 1) (2 ^ 63 - 1)
+    × Gives Rem 5 0 (2 ^ 64 - 1)
+    × Gives Sll 1 63 (2 ^ 63)
+    × Gives Sll 1 64 0
     × UltAtEquality
-    × Tells 0 (row Const 11 0 0 0 0 ∷ row Not 11 0 0 0 0 ∷ row Input 11 0 0 0 1 ∷ row Eq bit_code 1 2 0 0 ∷ row Bad bit_code 3 0 0 0 ∷ []) (one_made 11 255) (only 1 7) 0 0
-    × Tells 0 (on_two And 11 3 5) (one_made 11 1) (only 2 8) 0 0
+    × Tells (row Const 11 0 0 0 0 ∷ row Not 11 0 0 0 0 ∷ row Input 11 0 0 0 1 ∷ row Eq bit_code 1 2 0 0 ∷ row Bad bit_code 3 0 0 0 ∷ []) (one_made 11 255) (only 1 7) 0 0
+    × Tells (on_two And 11 3 5) (one_made 11 1) (only 2 8) 0 0
     × PastUnsettled
-
--- ---- in a mode with 8
--- the memory State 9 is its own next value, so its init, the Writes 6 and 8, of 7 at 5 and then 4 at node k, is never visited; the Add 3 is, and
--- has become 5 when 5 is read: where k is that Add, the row of 8 does not say so
-abbrev pub unvisited : ℕ → List Row
-unvisited k =
-    row Const word_code 5 0 0 0 ∷ row Const word_code 7 0 0 0 ∷ row Const word_code 0 0 0 0 ∷ row (Word Add) word_code 0 2 0 0 ∷ row Const word_code 6 0 0 0
-    ∷ row Input memory_code 0 0 0 1 ∷ row Write memory_code 5 0 1 0 ∷ row Const word_code 4 0 0 0 ∷ row Write memory_code 6 k 7 0
-    ∷ row State memory_code 8 1 0 0 ∷ row Next memory_code 9 9 0 0 ∷ row Read word_code 9 0 0 0 ∷ row Ult bit_code 3 11 0 0 ∷ row Bad bit_code 12 0 0 0 ∷ []
-
-abbrev pub Unvisited : ℕ → ℕ → List ℕ → ℕ → ℕ → Type 0
-Unvisited mode k replacements l p =
-    told (outcome house impl (call_of mode (record { rows = unvisited k; sequentials = 10 ∷ []; initial = 13 ∷ []; later = []; inputs = []; replies = [] })))
-    ≡ one_made word_code 5 ∷ replacements ∷ (5 ∷ 0 ∷ 0 ∷ l ∷ p ∷ 0 ∷ []) ∷ []
-
--- Div by 0 "2^64 - 1 for a dividend of 0 or more, 1 for a negative one", of -2^63 by -1 the same, Rem by 0 "the dividend", and all else as ever;
--- "the walk gives up at an unsettled Write, which is counted", "A Write above it that holds the address is still found", a settled one is passed
-unfoldable pub StandardCases : Type 0
-StandardCases =
-    Gives 8 Div 5 0 (2 ^ 64 - 1)
-    × Gives 8 Div 0 0 (2 ^ 64 - 1)
-    × Gives 8 Div (2 ^ 63 - 1) 0 (2 ^ 64 - 1)
-    × Gives 8 Div (2 ^ 63) 0 1
-    × Gives 8 Div (2 ^ 64 - 1) 0 1
-    × Gives 8 Div (2 ^ 63) (2 ^ 64 - 1) (2 ^ 63)
-    × Gives 8 Div (2 ^ 63 + 1) (2 ^ 64 - 1) (2 ^ 63 - 1)
-    × Gives 10 Div (2 ^ 64 - 7) 2 (2 ^ 64 - 3)
-    × Gives 8 Rem 5 0 5
-    × Gives 8 Rem 0 0 0
-    × Gives 8 Rem (2 ^ 64 - 1) 0 (2 ^ 64 - 1)
-    × Gives 8 Divu 5 0 (2 ^ 64 - 1)
-    × Tells 8 (forwarding 0 2) none_made (0 ∷ []) 1 0
-    × Tells 8 (forwarding 0 4) none_made (only 8 1) 2 0
-    × Tells 8 (forwarding 3 3) none_made (only 8 3) 1 0
-    × Unvisited 0 3 (4 ∷ 3 ∷ 16 ∷ 9 ∷ 8 ∷ 11 ∷ 1 ∷ 12 ∷ 15 ∷ []) 2 1
-    × Unvisited 8 3 (2 ∷ 3 ∷ 16 ∷ 9 ∷ 8 ∷ []) 1 0
-    × Unvisited 8 4 (4 ∷ 3 ∷ 16 ∷ 9 ∷ 8 ∷ 11 ∷ 1 ∷ 12 ∷ 15 ∷ []) 2 0
 
 -- ---- the example
 abbrev pub mode0 : Mode

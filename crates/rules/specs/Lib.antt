@@ -25,7 +25,6 @@ pub mod Limits
 pub mod Sections
 pub mod Names
 pub mod Call
-pub mod Standard
 pub mod Label
 pub mod Text
 pub mod Reader

@@ -1,10 +1,10 @@
 -- The house's limits, the room that a call needs, and what a mode adds up (docs/FORMAT.md, "A call", "Limits and room", "Modes").
 --     Limits, house      the most of everything, and the house's own numbers
 --     node_room, bad_room, least_room, need   the words of room
---     highest_mode, reading_of, mode_of
+--     highest_mode, mode_of
 -- Assumes nothing.
-use Rattle.std.specs.Prelude.{ℕ, ◌+◌, ◌*◌, ◌/◌, ◌%◌, Bool, cond, eqb}
-use Rattle.btor.specs.Operators.{Reading, rust, standard}
+use Rattle.std.specs.Prelude.{ℕ, ◌+◌, ◌*◌, ◌/◌, ◌%◌, Bool, eqb}
+use Rattle.btor.specs.Operators.{rust}
 use Rattle.rules.specs.Model.{Mode}
 
 -- the most nodes, entries in each of sections 2, 3, 4, inputs, replies, names, and bytes of a name
@@ -34,18 +34,14 @@ least_room = 22
 abbrev pub need : ℕ → ℕ → ℕ → ℕ → ℕ
 need n s b i = node_room * n + bad_room * b + s + i + least_room
 
--- refusal 1: "a mode above 15"
+-- refusal 1: "a mode above 7"
 abbrev pub highest_mode : ℕ
-highest_mode = 15
+highest_mode = 7
 
--- whether a mode has added a part (1, 2, 4 or 8)
+-- whether a mode has added a part (1, 2 or 4)
 abbrev pub adds : ℕ → ℕ → Bool
 adds mode part = eqb (mode / part % 2) 1
 
--- "operators and reads are those of SMT-LIB and BTOR2", else the Rust's
-abbrev pub reading_of : ℕ → Reading
-reading_of mode = cond (adds mode 8) standard rust
-
--- "A mode is the sum of what it asks for: 1 minimise, 2 terminate, 4 one-query, 8 standard."
+-- "A mode is the sum of what it asks for: 1 minimise, 2 terminate, 4 one-query."
 abbrev pub mode_of : ℕ → Mode
-mode_of mode = record { minimise = adds mode 1; terminate = adds mode 2; one_query = adds mode 4; reading = reading_of mode }
+mode_of mode = record { minimise = adds mode 1; terminate = adds mode 2; one_query = adds mode 4; reading = rust }

@@ -25,7 +25,7 @@ hit v = record { value = some v; looked = 1; unsettled = 0 }
 abbrev pub past : ℕ → Found → Found
 past u r = record { value = r.value; looked = r.looked + 1; unsettled = r.unsettled + u }
 
--- "also one whose address is no constant, which is called unsettled"; "In the standard mode the walk gives up at an unsettled Write, which is counted"
+-- "also one whose address is no constant, which is called unsettled"; the standard's reading would give up there
 abbrev pub meet_unsettled : Reading → Found → Found
 meet_unsettled rust r = past 1 r
 meet_unsettled standard r = record { value = none; looked = 1; unsettled = 0 }

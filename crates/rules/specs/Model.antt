@@ -19,7 +19,7 @@ abbrev pub model_of : List Row → (ℕ → Bool) → List ℕ → List ℕ → 
 model_of rs dump ss initial later ins reps =
     record { table = map decode rs; dump = dump; sequentials = ss; initial = initial; later = later; inputs = ins; replies = reps }
 
--- "A mode is the sum of what it asks for: 1 minimise, 2 terminate, 4 one-query, 8 standard."; the reading says whose operators and reads fold
+-- "A mode is the sum of what it asks for: 1 minimise, 2 terminate, 4 one-query."; the reading says whose operators fold
 pub record Mode : Type 0 where
   pub minimise : Bool
   pub terminate : Bool

@@ -1,8 +1,6 @@
--- Neither of demand 3's premises can be left out where it is asked for, nor is it of any operators but the mode's own: else there is a call for which
--- the conclusion fails (docs/FORMAT.md, "What you may rely on").
+-- Neither of demand 3's premises can be left out: without it there is a call for which the conclusion fails (docs/FORMAT.md, "What you may rely on").
 -- Assumes nothing.
 use Rattle.std.specs.Prelude.{ℕ, ◌≡◌, Bool, List, map}
-use Rattle.btor.specs.Operators.{Reading, rust, standard}
 use Rattle.rules.specs.Refusal.{done}
 use Rattle.rules.specs.Table.{Row, decode}
 use Rattle.rules.specs.Model.{Mode, model_of}
@@ -16,25 +14,14 @@ OfRuns P =
     (names : ℕ) (rs : List Row) (dump : ℕ → Bool) (ss initial later inputs replies : List ℕ) (how : Mode) (f : Folded)
     → run names rs (model_of rs dump ss initial later inputs replies) how ≡ done f → P rs ss how f
 
--- the premise on replies, and the conclusion, by the operators of R
-abbrev pub Hold : Reading → List Row → List ℕ → Folded → Type 0
-Hold R rs ss f = (α : ℕ → Value) → Faithful R (map decode rs) ss f.state α → RepliesHold R (map decode rs) α f.state
+abbrev pub Kept : List Row → List ℕ → Mode → Folded → Type 0
+Kept rs ss how f = (α : ℕ → Value) → Faithful how.reading (map decode rs) ss f.state α → Keeps how.reading (map decode rs) f α
 
-abbrev pub Kept : Reading → List Row → List ℕ → Folded → Type 0
-Kept R rs ss f = (α : ℕ → Value) → Faithful R (map decode rs) ss f.state α → Keeps R (map decode rs) f α
-
--- "no Read that found its value passed an unsettled Write", where the mode reads as the Rust
+-- "no Read that found its value passed an unsettled Write"
 unfoldable pub UnsettledNeeded : Type 0
-UnsettledNeeded = OfRuns (λ rs ss how f. how.reading ≡ rust → Hold rust rs ss f → Kept rust rs ss f) → ⊥
+UnsettledNeeded =
+    OfRuns (λ rs ss how f. ((α : ℕ → Value) → Faithful how.reading (map decode rs) ss f.state α → RepliesHold how.reading (map decode rs) α f.state) → Kept rs ss how f) → ⊥
 
--- "each reply of 1 that a question took holds in every faithful assignment", in either reading
+-- "each reply of 1 that a question took holds in every faithful assignment"
 unfoldable pub RepliesNeeded : Type 0
-RepliesNeeded = (R : Reading) → OfRuns (λ rs ss how f. how.reading ≡ R → NonePassed R f → Kept R rs ss f) → ⊥
-
--- "by the operators of the call's mode": by the other reading's it fails, also where no unsettled Write was passed
-abbrev pub other : Reading → Reading
-other rust = standard
-other standard = rust
-
-unfoldable pub ReadingNeeded : Type 0
-ReadingNeeded = (R : Reading) → OfRuns (λ rs ss how f. how.reading ≡ R → f.state.passed ≡ 0 → Hold (other R) rs ss f → Kept (other R) rs ss f) → ⊥
+RepliesNeeded = OfRuns (λ rs ss how f. NonePassed how.reading f → Kept rs ss how f) → ⊥

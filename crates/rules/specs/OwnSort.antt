@@ -36,7 +36,7 @@ OwnSortsOfCall =
 
 -- ---- And and Or of 3 and 5 in each sort in which they make a constant
 abbrev pub Stays : ℕ → Type 0
-Stays s = Tells 0 (on_two And s 3 5) (one_made s 1) (only 2 8) 0 0 × Tells 0 (on_two Or s 3 5) (one_made s 7) (only 2 8) 0 0
+Stays s = Tells (on_two And s 3 5) (one_made s 1) (only 2 8) 0 0 × Tells (on_two Or s 3 5) (one_made s 7) (only 2 8) 0 0
 
 unfoldable pub EachSort : Type 0
 EachSort = All Stays (word_code ∷ 11 ∷ 12 ∷ 13 ∷ 14 ∷ 15 ∷ 16 ∷ 17 ∷ [])

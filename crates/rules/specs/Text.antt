@@ -58,7 +58,7 @@ unfoldable pub number_of : List ℕ → Option ℕ
 number_of token = elim (all_digits token && ltb (decimal_from 0 token) (2 ^ 64)) [ true ↦ some (decimal_from 0 token) | false ↦ none ]
 
 -- ---- "in reading order": the numbers, from a place on
--- "text that is no such number, and a mode that is .. above 15, as 1, section 0, with the place of that number in the text from 0"
+-- "text that is no such number, and a mode that is .. above 7, as 1, section 0, with the place of that number in the text from 0"
 abbrev pub judge_number : ℕ → Option ℕ → Out ℕ
 judge_number place none = refuse 1 0 place
 judge_number place (some x) = elim (eqb place 0 && ltb highest_mode x) [ true ↦ refuse 1 0 place | false ↦ done x ]

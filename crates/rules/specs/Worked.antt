@@ -1,12 +1,11 @@
--- Demand 3 at work: four calls that meet its premises, what each of them replaced, asked and dropped, and what follows.
+-- Demand 3 at work: three calls that meet its premises, what each of them replaced, asked and dropped, and what follows.
 --     Follows               demand 3's conclusion, of some assignment and of every faithful one, and what operands are worth in each
 --     ReplacedWorked        a dropped Next, a state that took an input, and replies of yes to every kind of question that a node or a bad draws
 --     SeveralWorked         one-query with two bads left, and the reply that neither can be
 --     SteppedWorked         a kept Next, a memory, a Read past a settled Write to its value, and a bad that is found satisfiable
---     StandardWorked        the standard mode: a Read that gives up at an unsettled Write, one that finds its value above it, and Div and Rem by 0
 -- Assumes nothing.
-use Rattle.std.specs.Prelude.{ℕ, ◌-◌, ◌<◌, ◌^◌, ◌≡◌, List, [], ◌∷◌}
-use Rattle.btor.specs.Operators.{Add, Div, Rem}
+use Rattle.std.specs.Prelude.{ℕ, ◌<◌, ◌^◌, ◌≡◌, List, [], ◌∷◌}
+use Rattle.btor.specs.Operators.{Add}
 use Rattle.btor.specs.Sorts.{bit_code, word_code, memory_code}
 use Rattle.rules.specs.Refusal.{OfDone}
 use Rattle.rules.specs.Table.{Const, Read, Write, Word, Ult, Ite, Eq, And, Or, Not, State, Next, Input, Bad, Row}
@@ -17,7 +16,6 @@ use Rattle.rules.specs.Demand.{Keeps}
 use Rattle.rules.specs.Laws.{OperandsWorth}
 use Rattle.rules.specs.Limits.{house}
 use Rattle.rules.specs.Call.{Call, impl, Accepted, outcome, FaithfulTo, HoldIn, value_in, Premises}
-use Rattle.rules.specs.Standard.{Standard}
 use Rattle.rules.specs.Cases.{row, call_of}
 
 -- some assignment is faithful, with any value that fits for the Input 0
@@ -118,37 +116,3 @@ pub record Stepped (a : Accepted) : Type 0 where
 
 unfoldable pub SteppedWorked : Type 0
 SteppedWorked = OfDone Stepped (outcome house impl stepped_call)
-
--- ---- 0 an Input, 1 a memory, 2 and 3 the numbers 5 and 7, 4 the memory with 0 written at 5, 5 that with 7 written at 0, 6 that with 5 written at 7,
--- 7 what is read at 5, 8 what is read at 7, 9 a zero, 10 and 11 Div and Rem of 5 by 0, 12 whether 10 is below 11, 13 whether 0 is below itself,
--- 14 whether 7 is 8; Bads on 12, 13 and 14. Under minimise, and by the standard: 7 is not known, 8 is 5, 10 is all ones, 11 is 5, so 12 is never 1.
-abbrev pub standard_rows : List Row
-standard_rows =
-    row Input word_code 0 0 0 1 ∷ row Input memory_code 0 0 0 1 ∷ row Const word_code 5 0 0 0 ∷ row Const word_code 7 0 0 0
-    ∷ row Write memory_code 1 2 0 0 ∷ row Write memory_code 4 0 3 0 ∷ row Write memory_code 5 3 2 0 ∷ row Read word_code 6 2 0 0 ∷ row Read word_code 6 3 0 0
-    ∷ row Const word_code 0 0 0 0 ∷ row (Word Div) word_code 2 9 0 0 ∷ row (Word Rem) word_code 2 9 0 0
-    ∷ row Ult bit_code 10 11 0 0 ∷ row Ult bit_code 0 0 0 0 ∷ row Eq bit_code 7 8 0 0
-    ∷ row Bad bit_code 12 0 0 0 ∷ row Bad bit_code 13 0 0 0 ∷ row Bad bit_code 14 0 0 0 ∷ []
-
-abbrev pub standard_in : ℕ → Call
-standard_in mode = call_of mode (record { rows = standard_rows; sequentials = []; initial = 15 ∷ 16 ∷ 17 ∷ []; later = []; inputs = []; replies = 0 ∷ 1 ∷ 0 ∷ 0 ∷ 2 ∷ [] })
-
-abbrev pub standard_asked : List Question
-standard_asked =
-    question always_true 13 0 [] 0 ∷ question always_false 13 0 [] 1 ∷ question always_true 14 0 [] 0 ∷ question always_false 14 0 [] 0
-    ∷ question satisfiable 14 0 [] 2 ∷ []
-
-pub record ByStandard (a : Accepted) : Type 0 where
-  pub initial : a.folded.initial ≡ 17 ∷ []
-  pub dropped : a.folded.dropped ≡ 15 ∷ 16 ∷ []
-  pub asked : a.folded.state.asked ≡ standard_asked
-  pub looked : a.folded.state.looked ≡ 3
-  pub premises : Premises a
-  pub follows : Follows a
-  pub standard : Standard a
-  pub values : (α : ℕ → Value) → FaithfulTo a α → (value_in a α 8 ≡ number 5) × (value_in a α 10 ≡ number (2 ^ 64 - 1)) × (value_in a α 11 ≡ number 5)
-  pub conditions : (α : ℕ → Value) → FaithfulTo a α → (value_in a α 12 ≡ number 0) × (value_in a α 13 ≡ number 0)
-
--- in mode 9; without the 8 the Read 7 passes the unsettled Write, so that demand 3 is not said of the call
-unfoldable pub StandardWorked : Type 0
-StandardWorked = OfDone ByStandard (outcome house impl (standard_in 9)) × OfDone (λ a. Premises a → ⊥) (outcome house impl (standard_in 1))

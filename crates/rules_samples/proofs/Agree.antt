@@ -1,4 +1,4 @@
--- The rules give the answers of the published Rust, unchanged in modes 0 to 7 and exchanged in 8 to 15, but for the departures, by computation.
+-- The rules give the published Rust's answer but for the departures on every sample, by computation.
 -- Assumes nothing.
 use mathlib.Core.Path.{◌≡◌, refl}
 use mathlib.Core.Bool.{true}

@@ -1,5 +1,4 @@
--- A sample: a call and what the published Rust, for modes 8 to 15 with its three exchanged expressions, answered to it but for the departures
--- (oracle/README.md), and whether the rules agree.
+-- A sample: a call and what the published Rust answered to it but for the departures (oracle/README.md), and whether the rules agree.
 --     Sample    mode, words, names bytes and the answer       agrees    the rules give that answer, word for word
 -- Assumes nothing.
 use Rattle.std.specs.Prelude.{ℕ, Bool, true, false, ◌&&◌, List, [], ◌∷◌, eqb}

@@ -3,7 +3,7 @@ ghost use Rattle.std.specs.Prelude.{◌≡◌};
 ghost use Rattle.rules.specs.Limits.{house};
 ghost use Rattle.tables.specs.LimitAnswers.{limits_is};
 
-pub const HIGHEST_MODE: u64 = 15;
+pub const HIGHEST_MODE: u64 = 7;
 
 // The words of room for each node, for each bad entry, and for a table that has none.
 pub const NODE_ROOM: usize = 22;

@@ -20,7 +20,6 @@ use lib.Dec.{leb, eqb}
 use borrow.Author.Tests.{lt-ltb, le-ltb, le-leb, lt-leb, ne_eqb}
 use Rattle.rules.specs.Refusal.{Refusal, Out, refused, done, refuse, ◌>>=◌}
 use Rattle.rules.specs.Text.{most_numbers, separates, judge_token, judge_number, with_mode, numbers}
-use Rattle.rules.specs.Limits.{highest_mode}
 use Rattle.rules.specs.Reader.{Reader, Token, between, within, junk, fresh, digit_after, grown, put, closed, step, feed, read_out}
 use Rattle.rules.proofs.Reader.{feed_append, reader-is}
 use Rattle.text.specs.declared.reader.Numbers.{Numbers as state·Numbers}
@@ -56,11 +55,11 @@ judge-none : (place : ℕ) → place < most_numbers → judge_token place none �
 unfolding judge_token
 judge-none place h = rw (lt-leb most_numbers place h, judge_token)
 
-judge-first : (x : ℕ) → highest_mode < x → judge_token 0 (some x) ≡ refuse 1 0 0
+judge-first : (x : ℕ) → 7 < x → judge_token 0 (some x) ≡ refuse 1 0 0
 unfolding judge_token
-judge-first x h = rw (judge_number, lt-ltb highest_mode x h)
+judge-first x h = rw (judge_number, lt-ltb 7 x h)
 
-judge-some : (place x : ℕ) → place < most_numbers → ((place ≡ 0 → ⊥) ⊎ (x ≤ highest_mode)) → judge_token place (some x) ≡ done x
+judge-some : (place x : ℕ) → place < most_numbers → ((place ≡ 0 → ⊥) ⊎ (x ≤ 7)) → judge_token place (some x) ≡ done x
 unfolding judge_token
 judge-some place x h l = rw (lt-leb most_numbers place h, judge_token) (go l)
   where
@@ -68,9 +67,9 @@ judge-some place x h l = rw (lt-leb most_numbers place h, judge_token) (go l)
     both true = refl
     both false = refl
 
-    go : (place ≡ 0 → ⊥) ⊎ (x ≤ highest_mode) → judge_number place (some x) ≡ done x
+    go : (place ≡ 0 → ⊥) ⊎ (x ≤ 7) → judge_number place (some x) ≡ done x
     go (inl l) = rw (judge_number, ne_eqb place 0 l)
-    go (inr l) = rw (judge_number, le-ltb highest_mode x l) (both (eqb place 0))
+    go (inr l) = rw (judge_number, le-ltb 7 x l) (both (eqb place 0))
 
 module _ (ws : List ℕ) (n : ℕ) (size : length ws ≡ most_numbers) where
   pub put_many : (o : Option ℕ) → most_numbers ≤ n → put o (take n ws) ≡ refuse 2 0 most_numbers
@@ -82,10 +81,10 @@ module _ (ws : List ℕ) (n : ℕ) (size : length ws ≡ most_numbers) where
   pub put-none : n < most_numbers → put none (take n ws) ≡ refuse 1 0 n
   put-none h = rw (front h, judge-none n h)
 
-  pub put_first : (x : ℕ) → n ≡ 0 → highest_mode < x → put (some x) (take n ws) ≡ refuse 1 0 0
+  pub put_first : (x : ℕ) → n ≡ 0 → 7 < x → put (some x) (take n ws) ≡ refuse 1 0 0
   put_first x e h = rw (front (omega arith), e, judge-first x h)
 
-  pub put_some : (x : ℕ) → n < most_numbers → ((n ≡ 0 → ⊥) ⊎ (x ≤ highest_mode)) → put (some x) (take n ws) ≡ done (take (n + 1) (set ws n x))
+  pub put_some : (x : ℕ) → n < most_numbers → ((n ≡ 0 → ⊥) ⊎ (x ≤ 7)) → put (some x) (take n ws) ≡ done (take (n + 1) (set ws n x))
   put_some x h l =
       rw (front h, judge-some n x h l, add-one n, take-suc-set ws n x (omega arith))
 
@@ -111,10 +110,10 @@ module _ (ws : List ℕ) (n : ℕ) (size : length ws ≡ most_numbers) where
   pub kept_many : (o : Option ℕ) → most_numbers ≤ n → on_front (put o (take n ws)) ws ≡ ws
   kept_many o h = ap (λ r. on_front r ws) (put_many ws n size o h)
 
-  pub kept-first : (x : ℕ) → n ≡ 0 → highest_mode < x → on_front (put (some x) (take n ws)) ws ≡ ws
+  pub kept-first : (x : ℕ) → n ≡ 0 → 7 < x → on_front (put (some x) (take n ws)) ws ≡ ws
   kept-first x e h = ap (λ r. on_front r ws) (put_first ws n size x e h)
 
-  pub kept-some : (x : ℕ) → n < most_numbers → ((n ≡ 0 → ⊥) ⊎ (x ≤ highest_mode)) → on_front (put (some x) (take n ws)) ws ≡ set ws n x
+  pub kept-some : (x : ℕ) → n < most_numbers → ((n ≡ 0 → ⊥) ⊎ (x ≤ 7)) → on_front (put (some x) (take n ws)) ws ≡ set ws n x
   kept-some x h l = ap (λ r. on_front r ws) (put_some ws n size x h l) ∙ kept_set ws n x (omega arith)
 
 -- a token that is no number is refused wherever it stands

@@ -27,7 +27,7 @@ pub enum Token {
 #[derive(Drop)]
 pub enum Numbers {
     Whole(usize),
-    // Refusal 1, section 0: the token at this place, from 0, is no number below 2^64, or is a mode above 15.
+    // Refusal 1, section 0: the token at this place, from 0, is no number below 2^64, or is a mode above 7.
     NoNumber(usize),
     // Refusal 2, section 0, position 4096.
     TooMany,

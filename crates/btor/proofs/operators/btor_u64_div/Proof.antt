@@ -2,7 +2,7 @@
 -- Assumes nothing.
 use Rattle.std.proofs.Common.{◌≡◌, ℕ, ◌-◌, ◌/◌, ◌%◌, ◌^◌, false, sym, refl, ap, ◌∙◌, ap₂, rules, eq-eqb, ne_eqb}
 use Rattle.btor.specs.Operators.{compute, signed_div, overflow, rust}
-use Rattle.btor.proofs.Words.{magnitude-pos, div-quotient, quot_same-low, quot_same-high, quot_low-high, quot_high-low}
+use Rattle.btor.proofs.Words.{magnitude-pos, div_quotient, quot_same-low, quot_same-high, quot_low-high, quot_high-low}
 use Rattle.btor.proofs.operators.btor_u64_div.Statement.{statement}
 use Rattle.btor.proofs.operators.btor_u64_div.Tie as tie
 
@@ -48,7 +48,7 @@ returns-3 c =
     let no : overflow x y ≡ false = sym c.before.before.before.before.before.overflows.ensures ∙ c.before.before.before.before.if2.false in
     quotients c.before.before.before.distance.ensures c.before.before.distance2.ensures
     ∙ sym (quot_same-low x y c.before.if3.true c.if4.true)
-    ∙ sym (div-quotient rust x y c.before.before.before.before.before.before.if1.false no)
+    ∙ sym (div_quotient rust x y c.before.before.before.before.before.before.if1.false no)
 
 returns-4 : tie.Need-returns-4
 returns-4 c =
@@ -58,7 +58,7 @@ returns-4 c =
     c.negated.ensures
     ∙ ap (λ (q : ℕ). (2 ^ 64 - q) % 2 ^ 64) (quotients c.before.before.before.before.distance.ensures c.before.before.before.distance2.ensures)
     ∙ sym (quot_low-high x y c.before.before.if3.true c.before.if4.false (search rules))
-    ∙ sym (div-quotient rust x y c.before.before.before.before.before.before.before.if1.false no)
+    ∙ sym (div_quotient rust x y c.before.before.before.before.before.before.before.if1.false no)
 
 returns-5 : tie.Need-returns-5
 returns-5 c =
@@ -68,7 +68,7 @@ returns-5 c =
     c.negated2.ensures
     ∙ ap (λ (q : ℕ). (2 ^ 64 - q) % 2 ^ 64) (quotients c.before.before.before.before.distance.ensures c.before.before.before.distance2.ensures)
     ∙ sym (quot_high-low x y c.before.before.if3.false (search rules) c.before.if5.true)
-    ∙ sym (div-quotient rust x y c.before.before.before.before.before.before.before.if1.false no)
+    ∙ sym (div_quotient rust x y c.before.before.before.before.before.before.before.if1.false no)
 
 returns-6 : tie.Need-returns-6
 returns-6 c =
@@ -77,7 +77,7 @@ returns-6 c =
     let no : overflow x y ≡ false = sym c.before.before.before.before.before.overflows.ensures ∙ c.before.before.before.before.if2.false in
     quotients c.before.before.before.distance.ensures c.before.before.distance2.ensures
     ∙ sym (quot_same-high x y c.before.if3.false (search rules) c.if5.false (search rules))
-    ∙ sym (div-quotient rust x y c.before.before.before.before.before.before.if1.false no)
+    ∙ sym (div_quotient rust x y c.before.before.before.before.before.before.if1.false no)
 
 pub btor-u64-div-spec : {M : Type 1} → statement M
 btor-u64-div-spec =

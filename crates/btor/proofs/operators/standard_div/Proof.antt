@@ -2,7 +2,7 @@
 -- Assumes nothing.
 use Rattle.std.proofs.Common.{◌≡◌, false, sym, ◌∙◌, rules, le-ltb, lt-ltb, eq-eqb, ne_eqb}
 use Rattle.btor.specs.Operators.{compute, signed_div, overflow, rust, standard}
-use Rattle.btor.proofs.Words.{div-quotient}
+use Rattle.btor.proofs.Words.{div_quotient}
 use Rattle.btor.proofs.operators.standard_div.Statement.{statement}
 use Rattle.btor.proofs.operators.standard_div.Tie as tie
 
@@ -30,8 +30,8 @@ returns-4 c =
     let y = c.before.before.before.before.args.right in
     let no : overflow x y ≡ false = sym c.before.before.overflows.ensures ∙ c.before.if3.false in
     c.btor-u64-div.ensures
-    ∙ div-quotient rust x y c.before.before.before.if1.false no
-    ∙ sym (div-quotient standard x y c.before.before.before.if1.false no)
+    ∙ div_quotient rust x y c.before.before.before.if1.false no
+    ∙ sym (div_quotient standard x y c.before.before.before.if1.false no)
 
 pub standard-div-spec : {M : Type 1} → statement M
 standard-div-spec = tie.close (tie.spec overflows-requires btor-u64-div-requires returns returns-2 returns-3 returns-4)

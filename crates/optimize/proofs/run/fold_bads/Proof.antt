@@ -5,7 +5,7 @@ use mathlib.Core.Path.{◌∙◌}
 use native.Mathlib.Omega.{arith}
 use Prim.Native.Nat.{◌+◌}
 use lib.ListN.{length}
-use Rattle.optimize.proofs.BadsJoined.{judged-refused, judged-done, lists-fit, ended, model_of, both_ended, first_ends, later_ends}
+use Rattle.optimize.proofs.BadsJoined.{judged-refused, judged-done, lists_fit, ended, model_of, both_ended, first_ends, later_ends}
 use Rattle.optimize.proofs.run.fold_bads.Statement.{statement}
 use Rattle.optimize.proofs.run.fold_bads.Tie as tie
 
@@ -16,19 +16,19 @@ add-second : tie.Need-overflow-add-second
 add-second c =
     let start = c.before.before.before.before.before.before.before in
     let u = start.requires in
-    omega (arith, lists-fit _ _ _ _ _ _ _ _ _ _ _ _ _ u)
+    omega (arith, lists_fit _ _ _ _ _ _ _ _ _ _ _ _ _ u)
 
 add-third : tie.Need-overflow-add-third
 add-third c =
     let start = c.before.before.before.before.before.before.before in
     let u = start.requires in
-    omega (arith, lists-fit _ _ _ _ _ _ _ _ _ _ _ _ _ u)
+    omega (arith, lists_fit _ _ _ _ _ _ _ _ _ _ _ _ _ u)
 
 judge-bads-requires : tie.Need-judge-bads-requires
 judge-bads-requires c κs =
     let start = c.before.before.before.before.before.before.before.before.before in
     let u = start.requires in
-    (u.laid, ((u.runnable.legal.initial, omega (arith, u.spare)), (omega arith, omega (arith, lists-fit _ _ _ _ _ _ _ _ _ _ _ _ _ u))))
+    (u.laid, ((u.runnable.legal.initial, omega (arith, u.spare)), (omega arith, omega (arith, lists_fit _ _ _ _ _ _ _ _ _ _ _ _ _ u))))
 
 enum-known-first : tie.Need-enum-known-first
 enum-known-first c = search rules
@@ -45,7 +45,7 @@ judge-bads-requires-2 c κs =
     let left = at-judge-bads.judge-bads.ensures.1 in
     let S-same = at-judge-bads.judge-bads.auto.1.1.1.0 in
     let spare-1 = left.spare _ _ (length start.args.later.now + 1) at-first2.first2.given.1 u.spare in
-    (left.laid _ _ at-first2.first2.given.1, ((u.runnable.legal.later, omega (arith, spare-1)), (omega arith, omega (arith, lists-fit _ _ _ _ _ _ _ _ _ _ _ _ _ u, S-same))))
+    (left.laid _ _ at-first2.first2.given.1, ((u.runnable.legal.later, omega (arith, spare-1)), (omega arith, omega (arith, lists_fit _ _ _ _ _ _ _ _ _ _ _ _ _ u, S-same))))
 
 enum-known-last : tie.Need-enum-known-last
 enum-known-last c = search rules

@@ -6,7 +6,7 @@ use native.Mathlib.Omega.{arith}
 use Prim.Native.Nat.{◌+◌}
 use lib.ListN.{length}
 use Rattle.optimize.specs.Runs.{model_in}
-use Rattle.optimize.proofs.BadsJoined.{judged-refused, judged-done, lists-fit, model_of}
+use Rattle.optimize.proofs.BadsJoined.{judged-refused, judged-done, lists_fit, model_of}
 use Rattle.optimize.proofs.OnceJoined.{spare-place, before-place, answered-refused, answered-done, last_made, last-asks, once-ended, once_first, once_last, once_done}
 use Rattle.optimize.specs.CallWords.{inputs_in, replies_in, mode_in}
 use Rattle.optimize.proofs.run.fold_once.Statement.{statement}
@@ -16,21 +16,21 @@ add-second : tie.Need-overflow-add-second
 add-second c =
     let start = c.before.before.before.before.before.before in
     let u = start.requires in
-    let fit = lists-fit _ _ _ _ _ _ _ _ _ _ _ _ _ u in
+    let fit = lists_fit _ _ _ _ _ _ _ _ _ _ _ _ _ u in
     omega (arith, fit)
 
 add-third : tie.Need-overflow-add-third
 add-third c =
     let start = c.before.before.before.before.before.before in
     let u = start.requires in
-    let fit = lists-fit _ _ _ _ _ _ _ _ _ _ _ _ _ u in
+    let fit = lists_fit _ _ _ _ _ _ _ _ _ _ _ _ _ u in
     omega (arith, fit)
 
 judge-bads-requires : tie.Need-judge-bads-requires
 judge-bads-requires c κs =
     let start = c.before.before.before.before.before.before.before.before in
     let u = start.requires in
-    let fit = lists-fit _ _ _ _ _ _ _ _ _ _ _ _ _ u in
+    let fit = lists_fit _ _ _ _ _ _ _ _ _ _ _ _ _ u in
     (u.laid, ((u.runnable.legal.initial, omega (arith, u.spare)), (omega arith, omega (arith, fit))))
 
 enum-known-first : tie.Need-enum-known-first
@@ -46,7 +46,7 @@ put-last-question-requires c κs =
     let start = at-judge-bads.before.before.before.before.before.before.before.before.before in
     let g = start.args.given.now in
     let u = start.requires in
-    let fit = lists-fit _ _ _ _ _ _ _ _ _ _ _ _ _ u in
+    let fit = lists_fit _ _ _ _ _ _ _ _ _ _ _ _ _ u in
     let left = at-judge-bads.judge-bads.ensures.1 in
     let S-same = at-judge-bads.judge-bads.auto.1.1.1.0 in
     let spare-1 = left.spare _ _ (length start.args.later.now + 1) at-first2.first2.given.1 u.spare in
@@ -64,7 +64,7 @@ copy-words-requires c κs =
     let at-judge-bads = at-put-last-question.before.before.before.before.before.before.before.before.before in
     let start = at-judge-bads.before.before.before.before.before.before.before.before.before in
     let u = start.requires in
-    let fit = lists-fit _ _ _ _ _ _ _ _ _ _ _ _ _ u in
+    let fit = lists_fit _ _ _ _ _ _ _ _ _ _ _ _ _ u in
     let S2-same = at-put-last-question.put-last-question.auto.1.1.0 ∙ at-judge-bads.judge-bads.auto.1.1.1.0 in
     (omega arith, omega (arith, fit, S2-same))
 
