@@ -2,7 +2,7 @@
 ghost use Rattle.std.specs.Prelude.{◌≡◌};
 ghost use Rattle.btor.specs.Sorts.{code_of, width_of, ones_of, sort_of};
 
-#[derive(Drop)]
+#[derive(Clone, Copy)]
 pub enum NodeType {
     Bit,
     Word,
@@ -17,7 +17,7 @@ pub enum NodeType {
 }
 
 // What a word names, read as a sort code.
-#[derive(Drop)]
+#[derive(Clone, Copy)]
 pub enum CodedSort {
     Known(NodeType),
     Unknown,

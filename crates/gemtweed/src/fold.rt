@@ -11,7 +11,7 @@ use optimize::walk::Optimized;
 
 // Number 0 is acceptance, with how many words the result has; else a refusal's number, section and position.
 #[repr(C)]
-#[derive(Drop)]
+#[derive(Clone, Copy)]
 pub struct GemtweedAnswer {
     pub number: u64,
     pub section: u64,

@@ -1,3 +1,5 @@
 // For C and Rust: the three entry points and the label of a node, as a static library. include/gemtweed.h says how they are called.
+#![tactic(auto)]
+
 pub mod fold; // fold.rt: the three entry points
 pub mod label; // label.rt: the label of a node, copied out

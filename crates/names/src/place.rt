@@ -9,7 +9,7 @@ use tables::names::{NamePlace, NameRead};
 use tables::refusal::Refusal;
 
 // What stands at a place.
-#[derive(Drop)]
+#[derive(Clone, Copy)]
 pub enum NextName {
     Name { start: usize, len: usize },
     End,

@@ -5,7 +5,7 @@ ghost use Rattle.names.specs.Reading.{next_of, next_at, name_at, after_at, begin
 
 use crate::place::{NextName, after, begins_at, name_at, next_at};
 
-#[derive(Drop)]
+#[derive(Clone, Copy)]
 pub struct NameReader<'a> {
     names: &'a [u8],
     at: usize,

@@ -19,7 +19,7 @@ use tables::node::Row;
 use tables::refusal::Refusal;
 
 // How a list of bads is judged: whether the solver is asked, whether a reachable bad is refused, and the list's section.
-#[derive(Drop)]
+#[derive(Clone, Copy)]
 pub(crate) struct Judging {
     pub(crate) solver: bool,
     pub(crate) terminate: bool,
@@ -27,14 +27,14 @@ pub(crate) struct Judging {
 }
 
 // Whether a bad stays.
-#[derive(Drop)]
+#[derive(Clone, Copy)]
 pub(crate) enum Retained {
     Done(Walk, bool),
     Refused(Refusal),
 }
 
 // What a list of bads leaves: the walk, and how many of them stay.
-#[derive(Drop)]
+#[derive(Clone, Copy)]
 pub(crate) enum Judged {
     Done(Walk, usize),
     Refused(Refusal),

@@ -13,14 +13,14 @@ use btor::operators;
 use btor::reading::Reading;
 
 // The number of a node that is a constant.
-#[derive(Drop)]
+#[derive(Clone, Copy)]
 pub(crate) enum Constant {
     Imm(u64),
     None,
 }
 
 // A node stays, or another node or a new constant (sort, number) takes its place.
-#[derive(Drop)]
+#[derive(Clone, Copy)]
 pub(crate) enum Folded {
     Stays,
     Swap(usize),
@@ -28,7 +28,7 @@ pub(crate) enum Folded {
 }
 
 // What two words are folded by: the function that fold_any_binary is handed.
-#[derive(Drop)]
+#[derive(Clone, Copy)]
 pub(crate) enum Operator {
     Add,
     Sub,
@@ -41,7 +41,7 @@ pub(crate) enum Operator {
 }
 
 // The rule of a node of two operands that folds.
-#[derive(Drop)]
+#[derive(Clone, Copy)]
 pub(crate) enum Rule {
     Word(Operator),
     Ult,
@@ -51,7 +51,7 @@ pub(crate) enum Rule {
 }
 
 // The rule of a node of one operand. A Bad and a State with an init stay.
-#[derive(Drop)]
+#[derive(Clone, Copy)]
 pub(crate) enum Single {
     Ext,
     Not,

@@ -11,7 +11,7 @@ use crate::fold::{Constant, Operator, Rule, Single};
 use tables::node::{NodeKind, Row};
 
 // What a node of two operands does with them: it folds by its rule, or reads a memory at an address.
-#[derive(Drop)]
+#[derive(Clone, Copy)]
 pub(crate) enum Pair {
     Folds(Rule),
     Reads,
@@ -19,7 +19,7 @@ pub(crate) enum Pair {
 
 // What a visit does with a node: it is a constant, an input, a state without init, or has one operand or two and what it does with them,
 // the three operands of a Write, the condition and branches of an Ite, or the state and the next value of a Next.
-#[derive(Drop)]
+#[derive(Clone, Copy)]
 pub(crate) enum Form {
     Constant,
     Given,
@@ -75,7 +75,7 @@ pub(crate) fn form_at(given: &[u64], node: usize) -> Form
 }
 
 // Which branch of an Ite its condition chooses.
-#[derive(Drop)]
+#[derive(Clone, Copy)]
 pub(crate) enum Choice {
     Left,
     Right,

@@ -16,7 +16,7 @@ use crate::walk::Walk;
 use tables::refusal::Refusal;
 
 // The walk and the verdict: 1 found, 2 not found, 3 folding removed all.
-#[derive(Drop)]
+#[derive(Clone, Copy)]
 pub(crate) enum Answered {
     Done(Walk, u64),
     Refused(Refusal),

@@ -1,4 +1,6 @@
 // The fold of a house table, after optimize.rs, over two lent buffers.
+#![tactic(auto)]
+
 mod bads; // bads.rt: which bads are kept
 mod beginning; // beginning.rt: the buffers set up, and the sequentials judged
 mod buffers; // buffers.rt: the rows, constants and marks in the buffers

@@ -12,14 +12,14 @@ use btor::reading::Reading;
 use tables::node::{NodeKind, Row};
 
 // The value of the first Write that holds the address.
-#[derive(Drop)]
+#[derive(Clone, Copy)]
 pub(crate) enum Found {
     Value(usize),
     Nothing,
 }
 
 // What a search found, how many Writes it looked at, and how many unsettled ones it passed.
-#[derive(Drop)]
+#[derive(Clone, Copy)]
 pub(crate) struct Search {
     pub(crate) found: Found,
     pub(crate) looked: usize,
@@ -28,7 +28,7 @@ pub(crate) struct Search {
 
 // One place of the chain: no Write; the Write that holds the address, with its value; a Write at which the walk gives up; another Write,
 // with its memory.
-#[derive(Drop)]
+#[derive(Clone, Copy)]
 pub(crate) enum Look {
     End,
     Hit(usize),

@@ -20,7 +20,7 @@ use tables::names::mark_memory_dumps;
 use tables::sections::{Part, Sections};
 
 // Which of the three functions is called.
-#[derive(Drop)]
+#[derive(Clone, Copy)]
 pub(crate) enum Entry {
     Impl,
     WithSolver,

@@ -17,7 +17,7 @@ use btor::node_type::NodeType;
 use tables::node::Row;
 
 // How many entries of the three lists are kept; they stand in scratch.
-#[derive(Drop)]
+#[derive(Clone, Copy)]
 pub(crate) struct Kept {
     pub(crate) sequentials: usize,
     pub(crate) initial: usize,
@@ -25,7 +25,7 @@ pub(crate) struct Kept {
 }
 
 // How many entries the three lists have as given.
-#[derive(Drop)]
+#[derive(Clone, Copy)]
 pub(crate) struct Sizes {
     pub(crate) sequentials: usize,
     pub(crate) initial: usize,

@@ -26,7 +26,7 @@ pub(crate) const SATISFIABLE: u64 = 4;
 pub(crate) const SEVERAL: u64 = 5;
 
 // The reply that a question took.
-#[derive(Drop)]
+#[derive(Clone, Copy)]
 pub(crate) enum Asked {
     Reply(Walk, u64),
     Refused(Refusal),

@@ -2,7 +2,7 @@
 use tables::refusal::Refusal;
 
 // Constants made, inputs and replies taken, questions asked, writes looked at, unsettled writes passed.
-#[derive(Drop)]
+#[derive(Clone, Copy)]
 pub(crate) struct Walk {
     pub(crate) made: usize,
     pub(crate) taken: usize,
@@ -13,21 +13,21 @@ pub(crate) struct Walk {
 }
 
 // What stands for a node after a visit.
-#[derive(Drop)]
+#[derive(Clone, Copy)]
 pub(crate) enum Visited {
     Done(Walk, usize),
     Refused(Refusal),
 }
 
 // What a list of visits leaves.
-#[derive(Drop)]
+#[derive(Clone, Copy)]
 pub(crate) enum Walked {
     Done(Walk),
     Refused(Refusal),
 }
 
 // What an entry point answers: how many words the result has, or why the call was refused.
-#[derive(Drop)]
+#[derive(Clone, Copy)]
 pub enum Optimized {
     Done(usize),
     Refused(Refusal),

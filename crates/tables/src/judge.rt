@@ -20,7 +20,7 @@ use crate::sections::{Cut, Sections, cut_sections};
 const MOST: usize = 4294967295;
 
 // A call whose words and names are in order: where its sections stand, and how many names there are.
-#[derive(Drop)]
+#[derive(Clone, Copy)]
 pub enum Verdict {
     Accepted(Sections, usize),
     Refused(Refusal),

@@ -1,4 +1,6 @@
 // Tables: cutting words and names bytes into sections, judging nodes and lists, labels. Every public function is total and has no `requires`.
+#![tactic(auto)]
+
 pub mod refusal; // refusal.rt: why a call is refused
 pub mod limits; // limits.rt: the limits, the room and the highest mode
 pub mod logic; // logic.rt: tests joined

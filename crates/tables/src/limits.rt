@@ -14,7 +14,7 @@ pub const LEAST_ROOM: usize = 22;
 
 // The most nodes, entries in each of sections 2, 3 and 4, inputs, replies, names, and bytes of a name.
 // They are of 32 bits, so that the words and the room of whatever they allow can be counted.
-#[derive(Drop)]
+#[derive(Clone, Copy)]
 pub struct Limits {
     pub nodes: u32,
     pub entries: u32,

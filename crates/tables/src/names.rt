@@ -11,21 +11,21 @@ use crate::limits::{Limits, NAME_MARKS};
 use crate::refusal::Refusal;
 
 // How many names the bytes hold, or why they are refused.
-#[derive(Drop)]
+#[derive(Clone, Copy)]
 pub enum NamesCut {
     Names(usize),
     Refused(Refusal),
 }
 
 // The name whose length byte stands at a place.
-#[derive(Drop)]
+#[derive(Clone, Copy)]
 pub enum NameRead {
     Name { start: usize, len: usize },
     Refused(Refusal),
 }
 
 // Where a name stands in the bytes.
-#[derive(Drop)]
+#[derive(Clone, Copy)]
 pub enum NamePlace {
     At { start: usize, len: usize },
     Nowhere,

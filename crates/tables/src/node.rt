@@ -6,7 +6,7 @@ ghost use Rattle.tables.specs.NodeAnswers.{coded_kind_of, kind_in};
 
 use btor::node_type::{CodedSort, NodeType};
 
-#[derive(Drop)]
+#[derive(Clone, Copy)]
 pub enum NodeKind {
     Const,
     Read,
@@ -33,7 +33,7 @@ pub enum NodeKind {
 }
 
 // What a word names, read as a kind's code.
-#[derive(Drop)]
+#[derive(Clone, Copy)]
 pub enum CodedKind {
     Known(NodeKind),
     Unknown,
@@ -117,7 +117,7 @@ impl NodeKind {
 }
 
 // The six words of a node.
-#[derive(Drop)]
+#[derive(Clone, Copy)]
 pub struct Row {
     pub code: u64,
     pub sort: u64,

@@ -13,7 +13,7 @@ use crate::sections::Sections;
 use crate::several::{Pair, Triple, judge_three, judge_two};
 use crate::single::{judge_bad, judge_const, judge_ext, judge_input, judge_not, judge_state};
 
-#[derive(Drop)]
+#[derive(Clone, Copy)]
 pub enum Judged {
     Passed,
     Refused(Refusal),

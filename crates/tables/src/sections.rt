@@ -14,14 +14,14 @@ use crate::node::Row;
 use crate::refusal::Refusal;
 
 // A section: how many it counts, and where its words start and end.
-#[derive(Drop)]
+#[derive(Clone, Copy)]
 pub struct Part {
     pub count: usize,
     pub start: usize,
     pub end: usize,
 }
 
-#[derive(Drop)]
+#[derive(Clone, Copy)]
 pub struct Sections {
     pub nodes: Part,
     pub sequentials: Part,
@@ -31,13 +31,13 @@ pub struct Sections {
     pub replies: Part,
 }
 
-#[derive(Drop)]
+#[derive(Clone, Copy)]
 pub enum Cut {
     Whole(Sections),
     Refused(Refusal),
 }
 
-#[derive(Drop)]
+#[derive(Clone, Copy)]
 pub enum Found {
     Section(Part),
     Refused(Refusal),

@@ -16,7 +16,7 @@ use crate::rows::{code_at, sort_at};
 use btor::node_type::NodeType;
 
 // What rule 5 asks of the sorts of two operands: the operators on words, Ult and Eq, and And and Or are one case each.
-#[derive(Drop)]
+#[derive(Clone, Copy)]
 pub(crate) enum Pair {
     Read,
     Word,
@@ -26,7 +26,7 @@ pub(crate) enum Pair {
 }
 
 // And of three.
-#[derive(Drop)]
+#[derive(Clone, Copy)]
 pub(crate) enum Triple {
     Write,
     Ite,

@@ -6,7 +6,7 @@ ghost use Rattle.rules.specs.Text.{decimal, blanked, line, lines, printed};
 ghost use Rattle.text.specs.Printing.{page, put_at, laid, SectionEnds, sections_in, result_widths, accepted_text};
 
 // Where the next byte goes, or that there was no room.
-#[derive(Drop)]
+#[derive(Clone, Copy)]
 pub enum Place {
     At(usize),
     Full,

@@ -14,7 +14,7 @@ use tables::limits::HIGHEST_MODE;
 pub const NUMBERS: usize = 4096;
 
 // The token that is being read.
-#[derive(Drop)]
+#[derive(Clone, Copy)]
 pub enum Token {
     Between,
     // Digits so far, of a number below 2^64.
@@ -24,7 +24,7 @@ pub enum Token {
 }
 
 // What is read: so many numbers, at the front of the array, or the first refusal.
-#[derive(Drop)]
+#[derive(Clone, Copy)]
 pub enum Numbers {
     Whole(usize),
     // Refusal 1, section 0: the token at this place, from 0, is no number below 2^64, or is a mode above 7.
@@ -34,7 +34,7 @@ pub enum Numbers {
 }
 
 // The state from chunk to chunk.
-#[derive(Drop)]
+#[derive(Clone, Copy)]
 pub struct Reader {
     pub read: Numbers,
     pub token: Token,

@@ -16,14 +16,14 @@ use tables::sections::{Cut, cut_six};
 pub const BYTES: usize = 4097;
 
 // Where the sections end, or why one is refused.
-#[derive(Drop)]
+#[derive(Clone, Copy)]
 pub enum End {
     At(usize),
     Refused(Refusal),
 }
 
 // The names as bytes, or the refusal.
-#[derive(Drop)]
+#[derive(Clone, Copy)]
 pub enum Names {
     Bytes(usize),
     // Refusal 2, section 7, position 0.
@@ -43,7 +43,7 @@ pub fn sections_end(words: &[u64]) -> End
 }
 
 // Whether the names after their count are whole, and nothing follows them.
-#[derive(Drop)]
+#[derive(Clone, Copy)]
 enum Judged {
     Whole,
     Over,

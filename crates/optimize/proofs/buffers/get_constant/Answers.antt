@@ -1,0 +1,19 @@
+-- The number of a constant: a row of the table with Const's code, or one of the constants made.
+-- Assumes nothing.
+use borrow.Author.Rules.{rules}
+use native.Mathlib.Omega.{arith}
+use Rattle.optimize.proofs.RowLaws.{constant-row, constant-no-row, constant-made, constant-none}
+use Rattle.optimize.proofs.buffers.get_constant.Goals as goal
+
+pub returns-then-word-eq-CONST : goal.returns-then-word-eq-CONST
+returns-then-word-eq-CONST c = constant-row _ _ _ _ (omega arith) (omega arith) _ c.word-then-word-eq-CONST.ensures
+
+pub returns-then-at-n : goal.returns-then-at-n
+returns-then-at-n c = constant-no-row _ _ _ _ (omega arith) (λ e. omega arith)
+
+pub returns-then-j-made : goal.returns-then-j-made
+returns-then-j-made c =
+    rw c.node_count-n.ensures (constant-made _ _ _ _ (omega arith) (omega arith))
+
+pub returns : goal.returns
+returns c = constant-none _ _ _ _ (omega arith) (omega arith)

@@ -1,0 +1,33 @@
+-- `set_up` leaves the state at the start of the walk: by SetUpLaws, from what the copy, the four stores and the clearing leave.
+-- Assumes nothing.
+use borrow.Author.Rules.{rules}
+use Prim.Native.Nat.{◌-◌}
+use native.Mathlib.Omega.{arith}
+use mathlib.Core.Path.{sym}
+use lib.ListN.{length-set}
+use lib.Seq.{length_front}
+use Rattle.optimize.specs.Bounds.{count_of}
+use Rattle.optimize.proofs.SetUpLaws.{set_up_left}
+use Rattle.optimize.proofs.Entries.{zero-less}
+use Rattle.optimize.proofs.result.set_up.Goals as goal
+
+-- NO GOAL slice-write-result-2 : tie.Need-slice-write-result-2
+-- NO GOAL slice-write-result-2 c = simp length-set (omega arith)
+
+-- NO GOAL slice-write-result-3 : tie.Need-slice-write-result-3
+-- NO GOAL slice-write-result-3 c = simp length-set (omega arith)
+
+-- NO GOAL slice-write-result-4 : tie.Need-slice-write-result-4
+-- NO GOAL slice-write-result-4 c = simp length-set (omega arith)
+
+pub slice_bounds-clear-end : goal.slice_bounds-clear-end
+slice_bounds-clear-end c =
+    omega (arith, c.requires.scratch)
+
+pub shape_of-scratch : goal.shape_of-scratch
+shape_of-scratch c =
+    length_front c.args.scratch.now c.clear.new.0 (count_of c.args.given.now - 0) c.clear.auto.0
+
+pub returns : goal.returns
+returns c =
+    set_up_left c.args.given.now c.args.res.now _ c.args.scratch.now _ _ c.requires c.copy_words.ensures (sym (zero-less _)) c.clear.ensures

@@ -1,0 +1,30 @@
+-- `write_replacements` is the count of the replaced nodes, and the pairs behind it.
+-- Assumes nothing.
+use borrow.Author.Rules.{rules}
+use mathlib.Core.Path.{◌∙◌}
+use native.Mathlib.Omega.{arith}
+use lib.ListN.{length-set}
+use Rattle.optimize.proofs.WriteLaws.{wrote_after}
+use Rattle.optimize.proofs.result.write_replacements.Goals as goal
+
+pub count_replaced-count-requires : goal.count_replaced-count-requires
+count_replaced-count-requires c = c.requires.0
+
+-- NO GOAL slice-write-result : tie.Need-slice-write-result
+-- NO GOAL slice-write-result c = omega arith
+
+pub write_pairs-requires : goal.write_pairs-requires
+write_pairs-requires c =
+    (c.requires.0, simp length-set (omega arith))
+
+pub shape_of-res : goal.shape_of-res
+shape_of-res c =
+    c.write_pairs.auto.1.1.0 ∙ length-set c.args.res.now c.args.at c.count_replaced-count.result
+
+pub returns : goal.returns
+returns c =
+    record {
+      writes = rw (← c.count_replaced-count.ensures)
+          (wrote_after c.args.res.now _ c.args.at c.count_replaced-count.result _ _ (omega arith) c.write_pairs.ensures.writes);
+      upper_bound = omega (arith, c.write_pairs.ensures.upper_bound);
+    }

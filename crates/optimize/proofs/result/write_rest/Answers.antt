@@ -1,0 +1,26 @@
+-- `write_rest` is two sections and the tally, one after the other.
+-- Assumes nothing.
+use borrow.Author.Rules.{rules}
+use mathlib.Core.Path.{◌∙◌}
+use native.Mathlib.Omega.{arith}
+use Rattle.optimize.proofs.WriteLaws.{wrote_then}
+use Rattle.optimize.proofs.result.write_rest.Goals as goal
+
+pub write_section-one-requires : goal.write_section-one-requires
+write_section-one-requires c = (omega arith, omega arith)
+
+pub write_section-two-requires : goal.write_section-two-requires
+write_section-two-requires c =
+    (omega arith, omega (arith, c.write_section-one.ensures.value, c.write_section-one.auto.1.1.1.1.0))
+
+pub write_tally-requires : goal.write_tally-requires
+write_tally-requires c =
+    omega (arith, c.write_section-one.ensures.value, c.write_section-one.auto.1.1.1.1.0, c.write_section-two.ensures.value, c.write_section-two.auto.1.1.1.1.0)
+
+pub shape_of-res : goal.shape_of-res
+shape_of-res c =
+    c.write_tally.auto.1.1.0 ∙ c.write_section-two.auto.1.1.1.1.0 ∙ c.write_section-one.auto.1.1.1.1.0
+
+pub returns : goal.returns
+returns c =
+    wrote_then _ _ _ _ _ _ _ _ c.write_section-one.ensures.writes (wrote_then _ _ _ _ _ _ _ _ c.write_section-two.ensures.writes c.write_tally.ensures.writes)

@@ -1,0 +1,15 @@
+-- `fits_sort` compares with all ones of the sort.
+-- Assumes nothing.
+use borrow.Author.Rules.{rules}
+use mathlib.Core.Path.{◌≡◌, sym, ap, ◌∙◌}
+use Rattle.btor.specs.Sorts.{width_of}
+use Rattle.tables.proofs.NodeLaws.{fits-known, fits-unknown}
+use Rattle.tables.proofs.node.fits_sort.Goals as goal
+
+pub returns-in-Known : goal.returns-in-Known
+returns-in-Known c =
+    rw c.ones.ensures (fits-known c.args.sort c.args.number c.in-Known.known (sym c.from_code.ensures ∙ c.in-Known.is))
+
+pub returns-in-Unknown : goal.returns-in-Unknown
+returns-in-Unknown c =
+    fits-unknown c.args.sort c.args.number (sym c.from_code.ensures ∙ c.in-Unknown.is)

@@ -1,0 +1,19 @@
+-- `print_bytes` meets its contract. The invariant: what is left, printed at the place, comes to what all comes to.
+-- Assumes nothing.
+use borrow.Author.Rules.{rules}
+use Prim.Native.Nat.{◌≤◌, ◌-◌}
+use mathlib.Core.Path.{◌≡◌, refl}
+use lib.ListN.{length, drop}
+use Rattle.text.specs.Printing.{page, laid}
+use Rattle.text.proofs.Printing.{bytes_next, bytes-all}
+use Rattle.text.proofs.printer.print_bytes.Goals as goal
+
+pub loop-i-init : goal.loop-i-init
+loop-i-init c = (search rules, search rules, refl)
+
+pub loop-i-preserved : goal.loop-i-preserved
+loop-i-preserved c =
+    (search rules, search rules, bytes_next _ _ _ _ _ c.loop-i.invariant.2 c.print_byte-next.ensures c.loop-i-test.true)
+
+pub returns : goal.returns
+returns c = bytes-all _ _ _ _ c.loop-i.invariant.2 c.loop-i-test.false

@@ -1,0 +1,16 @@
+-- `separates` meets its contract, test by test.
+-- Assumes nothing.
+use borrow.Author.Tests.{eq-eqb, ne_eqb}
+use Rattle.text.proofs.reader.separates.Goals as goal
+
+pub returns-then-b-eq32 : goal.returns-then-b-eq32
+returns-then-b-eq32 c = rw (eq-eqb _ _ c.if-b-eq32.true)
+
+pub returns-then-b-eq9 : goal.returns-then-b-eq9
+returns-then-b-eq9 c = rw (ne_eqb _ _ c.if-b-eq32.false, eq-eqb _ _ c.if-b-eq9.true)
+
+pub returns-then-b-eq13 : goal.returns-then-b-eq13
+returns-then-b-eq13 c = rw (ne_eqb _ _ c.if-b-eq32.false, ne_eqb _ _ c.if-b-eq9.false, eq-eqb _ _ c.if-b-eq13.true)
+
+pub returns : goal.returns
+returns c = rw (ne_eqb _ _ c.if-b-eq32.false, ne_eqb _ _ c.if-b-eq9.false, ne_eqb _ _ c.if-b-eq13.false)
