@@ -10,7 +10,7 @@ use Rattle.rules.specs.Model.{Model}
 use Rattle.rules.specs.Call as rules
 use Rattle.tables.specs.Refusals.{refusal_of}
 use Rattle.tables.specs.SectionAnswers.{sections_in}
-use Rattle.rules.specs.Lent.{Lent, was}
+use Rattle.rules.specs.Lent.{Lent, was, LentMut, old}
 use Rattle.tables.specs.Judging.{IsCut, call_with}
 use Rattle.tables.specs.declared.sections.Part.{Part}
 use Rattle.tables.specs.declared.sections.Sections.{Sections}
@@ -65,5 +65,5 @@ RunnableParts ws dumps s i r room scratch =
     Runnable ws dumps (part_of ws s.sequentials) (part_of ws s.initial) (part_of ws s.later) (between ws s.inputs.start i) (between ws s.replies.start r) room scratch
 
 -- the call of an entry point, over the parameters that it is lent
-abbrev pub call_lent : ℕ → Lent → Lent → Lent → Lent → rules.Call
-call_lent mode words names result scratch = call_with mode (was words) (was names) (length (was result)) (length (was scratch))
+abbrev pub call_lent : ℕ → Lent → Lent → LentMut → LentMut → rules.Call
+call_lent mode words names result scratch = call_with mode (was words) (was names) (length (old result)) (length (old scratch))

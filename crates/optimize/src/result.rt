@@ -9,7 +9,7 @@ ghost use Rattle.optimize.specs.Bounds.{constants_at, most_nodes, room_of};
 ghost use Rattle.optimize.specs.View.{mark_of};
 ghost use Rattle.optimize.specs.Lists.{entries_of};
 ghost use Rattle.optimize.specs.ResultView.{Ready, Finished, KeptIn, kept_words, rest_words};
-ghost use Rattle.rules.specs.Lent.{was};
+ghost use Rattle.rules.specs.Lent.{was, old};
 ghost use Rattle.optimize.specs.Clauses.{SetsUp, Writes, WritesResult};
 
 use crate::walk::Walk;
@@ -158,7 +158,7 @@ fn write_tally(walk: Walk, verdict: u64, res: &mut [u64], at: usize) -> usize
 // Puts the counts before the rows and before the constants, which stand in place. Answers the place after the constants.
 fn write_counts(n: usize, made: usize, res: &mut [u64]) -> usize
     requires { (made ≤ n) × (n ≤ most_nodes) × (room_of n ≤ length res.old) }
-    ensures writes { Writes res 0 result ((n ∷ entries_of (was res) 1 (row_width * n)) ++ ((2 + made) ∷ entries_of (was res) (constants_at n) (2 * (2 + made)))) }
+    ensures writes { Writes res 0 result ((n ∷ entries_of (old res) 1 (row_width * n)) ++ ((2 + made) ∷ entries_of (old res) (constants_at n) (2 * (2 + made)))) }
     ensures value { result ≡ constants_at n + 2 * (2 + made) }
 {
     res[0] = n as u64;

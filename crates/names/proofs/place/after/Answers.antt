@@ -2,7 +2,6 @@
 -- Assumes nothing.
 use mathlib.Core.Path.{sym, ap, ◌∙◌}
 use native.Mathlib.Omega.{arith}
-use borrow.Author.Rules.{rules}
 use Rattle.tables.specs.NameAnswers.{read_of}
 use Rattle.tables.proofs.NameLaws.{read-inside}
 use Rattle.names.proofs.PlaceLaws.{after-found, after-refused}

@@ -1,7 +1,6 @@
 -- `names::place::begins_at` meets its contract: where name k begins is read off its place.
 -- Assumes nothing.
 use mathlib.Core.Path.{sym, ap, ◌∙◌}
-use borrow.Author.Rules.{rules}
 use lib.ListN.{length}
 use Rattle.tables.specs.NameAnswers.{placed}
 use Rattle.names.specs.Reading.{begins_or}

@@ -1,7 +1,6 @@
 -- `names::place::is_named` meets its contract: name k has a place where there is one.
 -- Assumes nothing.
 use mathlib.Core.Path.{sym, ap, ◌∙◌}
-use borrow.Author.Rules.{rules}
 use Rattle.tables.specs.NameAnswers.{placed}
 use Rattle.names.specs.Reading.{is_some}
 use Rattle.names.proofs.place.is_named.Goals as goal

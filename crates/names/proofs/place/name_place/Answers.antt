@@ -1,6 +1,5 @@
 -- `name_place` is that of tables by the house's limits.
 -- Assumes nothing.
-use borrow.Author.Rules.{rules}
 use mathlib.Core.Path.{ap, ◌∙◌}
 use Rattle.rules.specs.Limits.{Limits}
 use Rattle.tables.specs.NameAnswers.{place_of}

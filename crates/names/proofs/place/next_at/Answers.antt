@@ -2,7 +2,6 @@
 -- Assumes nothing.
 use mathlib.Core.Path.{sym, ap, ◌∙◌}
 use mathlib.Core.Option.{some}
-use borrow.Author.Rules.{rules}
 use Rattle.rules.specs.Refusal.{done, ◌>>=◌}
 use Rattle.tables.specs.NameAnswers.{read_of}
 use Rattle.names.proofs.PlaceLaws.{next_end, next-read}

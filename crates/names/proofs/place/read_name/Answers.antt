@@ -1,6 +1,5 @@
 -- `read_name` is that of tables by the house's limits.
 -- Assumes nothing.
-use borrow.Author.Rules.{rules}
 use mathlib.Core.Path.{ap, ◌∙◌}
 use Rattle.rules.specs.Limits.{Limits}
 use Rattle.tables.specs.NameAnswers.{read_at}
