@@ -22,7 +22,7 @@ use crate::walk::{Visited, Walk};
 use tables::node::Row;
 
 // Visits a node: processes it the first time, and later gives what was recorded.
-#[cycle(process_process_both_process_ite_process_left_process_next_process_one_process_right_process_three_process_two_visit)]
+#[cycle(visit)]
 fn visit(
     given: &[u64],
     res: &mut [u64],
@@ -49,7 +49,7 @@ fn visit(
 }
 
 // Rewrites a node, by its form.
-#[cycle(process_process_both_process_ite_process_left_process_next_process_one_process_right_process_three_process_two_visit)]
+#[cycle(visit)]
 fn process(
     given: &[u64],
     res: &mut [u64],
@@ -86,7 +86,7 @@ fn process(
 }
 
 // A node of one operand: Ext, Not, Bad, a State with an init.
-#[cycle(process_process_both_process_ite_process_left_process_next_process_one_process_right_process_three_process_two_visit)]
+#[cycle(visit)]
 fn process_one(
     given: &[u64],
     res: &mut [u64],
@@ -128,7 +128,7 @@ fn process_one(
 }
 
 // A node of two operands: the operators on words, Ult, Eq, And, Or, and a Read.
-#[cycle(process_process_both_process_ite_process_left_process_next_process_one_process_right_process_three_process_two_visit)]
+#[cycle(visit)]
 fn process_two(
     given: &[u64],
     res: &mut [u64],
@@ -177,7 +177,7 @@ fn process_two(
 }
 
 // A Write.
-#[cycle(process_process_both_process_ite_process_left_process_next_process_one_process_right_process_three_process_two_visit)]
+#[cycle(visit)]
 fn process_three(
     given: &[u64],
     res: &mut [u64],
@@ -237,7 +237,7 @@ fn process_three(
 }
 
 // An Ite: its condition first, then only the chosen branch where that is constant.
-#[cycle(process_process_both_process_ite_process_left_process_next_process_one_process_right_process_three_process_two_visit)]
+#[cycle(visit)]
 fn process_ite(
     given: &[u64],
     res: &mut [u64],
@@ -277,7 +277,7 @@ fn process_ite(
 }
 
 // An Ite whose condition `x` is true: its left branch replaces it.
-#[cycle(process_process_both_process_ite_process_left_process_next_process_one_process_right_process_three_process_two_visit)]
+#[cycle(visit)]
 fn process_left(
     given: &[u64],
     res: &mut [u64],
@@ -312,7 +312,7 @@ fn process_left(
 }
 
 // An Ite whose condition `x` is false: its right branch replaces it.
-#[cycle(process_process_both_process_ite_process_left_process_next_process_one_process_right_process_three_process_two_visit)]
+#[cycle(visit)]
 fn process_right(
     given: &[u64],
     res: &mut [u64],
@@ -347,7 +347,7 @@ fn process_right(
 }
 
 // An Ite whose condition `x` is open.
-#[cycle(process_process_both_process_ite_process_left_process_next_process_one_process_right_process_three_process_two_visit)]
+#[cycle(visit)]
 fn process_both(
     given: &[u64],
     res: &mut [u64],
@@ -396,7 +396,7 @@ fn process_both(
 
 // A Next: its state first, for which no other node stands where the Next is kept (rules/specs/KeptState.antt), then the next value. Its first word
 // is never rewritten.
-#[cycle(process_process_both_process_ite_process_left_process_next_process_one_process_right_process_three_process_two_visit)]
+#[cycle(visit)]
 fn process_next(
     given: &[u64],
     res: &mut [u64],

@@ -26,15 +26,15 @@ returns-then-is_const-2 c =
 pub returns-then-not-how : goal.returns-then-not-how
 unfolding retained_of
 returns-then-not-how c =
-    λ h inputs dumps mode. bad-unasked h c.args.given.now inputs c.args.replies.now c.args.res.now c.args.scratch.now c.args.walk (ways_in dumps mode c.args.replies.now) c.args.how c.args.place c.args.condition _ c.get_constant-value.ensures (sym c.is_const.ensures ∙ c.if-is_const.false) (sym c.is_const-2.ensures ∙ c.if-is_const-2.false) c.if-not-how.true
+    λ h inputs dumps mode. bad-unasked h c.args.given.now inputs c.args.replies.now c.args.res.now c.args.scratch.now c.args.walk (ways_in dumps mode c.args.replies.now) c.args.how c.args.place c.args.condition _ c.get_constant-value.ensures (sym c.is_const.ensures ∙ c.if-is_const.false) (sym c.is_const-2.ensures ∙ c.if-is_const-2.false) (not-true _ c.if-not-how.true)
 
 pub returns-in-Reply : goal.returns-in-Reply
 returns-in-Reply c =
     let given = c.args.given.now in
     let result = c.args.res.now in
-    λ h inputs dumps mode. c.by_reply.ensures h given inputs c.args.replies.now result _ (ways_in dumps mode c.args.replies.now) ∙ bad_replied h given inputs c.args.replies.now result c.args.scratch.now c.args.walk (ways_in dumps mode c.args.replies.now) c.args.how c.args.place c.args.condition _ c.get_constant-value.ensures (sym c.is_const.ensures ∙ c.if-is_const.false) (sym c.is_const-2.ensures ∙ c.if-is_const-2.false) c.if-not-how.false _ _ (c.ask_at-asked.ensures h inputs result) _ _ c.in-Reply.is
+    λ h inputs dumps mode. c.by_reply.ensures h given inputs c.args.replies.now result _ (ways_in dumps mode c.args.replies.now) ∙ bad_replied h given inputs c.args.replies.now result c.args.scratch.now c.args.walk (ways_in dumps mode c.args.replies.now) c.args.how c.args.place c.args.condition _ c.get_constant-value.ensures (sym c.is_const.ensures ∙ c.if-is_const.false) (sym c.is_const-2.ensures ∙ c.if-is_const-2.false) (not-false _ c.if-not-how.false) _ _ (c.ask_at-asked.ensures h inputs result) _ _ c.in-Reply.is
 
 pub returns-in-Refused : goal.returns-in-Refused
 unfolding retained_of
 returns-in-Refused c =
-    λ h inputs dumps mode. bad_stopped h c.args.given.now inputs c.args.replies.now c.args.res.now c.args.scratch.now c.args.walk (ways_in dumps mode c.args.replies.now) c.args.how c.args.place c.args.condition _ c.get_constant-value.ensures (sym c.is_const.ensures ∙ c.if-is_const.false) (sym c.is_const-2.ensures ∙ c.if-is_const-2.false) c.if-not-how.false _ _ (c.ask_at-asked.ensures h inputs c.args.res.now) _ c.in-Refused.is
+    λ h inputs dumps mode. bad_stopped h c.args.given.now inputs c.args.replies.now c.args.res.now c.args.scratch.now c.args.walk (ways_in dumps mode c.args.replies.now) c.args.how c.args.place c.args.condition _ c.get_constant-value.ensures (sym c.is_const.ensures ∙ c.if-is_const.false) (sym c.is_const-2.ensures ∙ c.if-is_const-2.false) (not-false _ c.if-not-how.false) _ _ (c.ask_at-asked.ensures h inputs c.args.res.now) _ c.in-Refused.is

@@ -23,10 +23,6 @@ should_retain_bad_state-requires c =
       may_ask = subst (λ z. MayAsk c.args.given.now (take z c.args.scratch.now) c.args.visited) (zero-less c.args.at) c.requires.may_ask;
     }
 
-pub shape_of-scratch : goal.shape_of-scratch
-shape_of-scratch c =
-    part-whole c.args.scratch.now c.should_retain_bad_state.new.1.1.1.0 c.args.at (c.args.at - 0) (omega arith) c.requires.has_room.1 c.should_retain_bad_state.auto.1.1.1.0
-
 pub returns : goal.returns
 returns c =
     let given = c.args.given.now in
@@ -35,9 +31,9 @@ returns c =
     let scratch = c.args.scratch.now in
     let inputs = inputs_in given call in
     let replies = replies_in given call in
-    let front = part-front scratch c.should_retain_bad_state.new.1.1.1.0 c.args.at (c.args.at - 0) (omega arith) c.requires.has_room.1 c.should_retain_bad_state.auto.1.1.1.0 in
+    let front = part-front scratch c.should_retain_bad_state.new.scratch c.args.at (c.args.at - 0) (omega arith) c.requires.has_room.1 c.should_retain_bad_state.auto.scratch in
     record {
       retains_in = subst (λ z. (h : List Held) (dumps : List ℕ) → retained_of h given inputs replies c.should_retain_bad_state.result result z ≡ visited_rule given (ways_by given dumps call) c.args.how c.args.place c.args.bad (outcome_of h given inputs replies c.args.visited result (take c.args.at scratch))) (sym front)
-          (subst (λ z. (h : List Held) (dumps : List ℕ) → retained_of h given inputs replies c.should_retain_bad_state.result result c.should_retain_bad_state.new.1.1.1.0 ≡ visited_rule given (ways_by given dumps call) c.args.how c.args.place c.args.bad (outcome_of h given inputs replies c.args.visited result (take z scratch))) (sym (zero-less c.args.at)) c.should_retain_bad_state.ensures);
-      scratch_unchanged = part-rest scratch c.should_retain_bad_state.new.1.1.1.0 c.args.at (c.args.at - 0) (omega arith) c.requires.has_room.1 c.should_retain_bad_state.auto.1.1.1.0;
+          (subst (λ z. (h : List Held) (dumps : List ℕ) → retained_of h given inputs replies c.should_retain_bad_state.result result c.should_retain_bad_state.new.scratch ≡ visited_rule given (ways_by given dumps call) c.args.how c.args.place c.args.bad (outcome_of h given inputs replies c.args.visited result (take z scratch))) (sym (zero-less c.args.at)) c.should_retain_bad_state.ensures);
+      scratch_unchanged = part-rest scratch c.should_retain_bad_state.new.scratch c.args.at (c.args.at - 0) (omega arith) c.requires.has_room.1 c.should_retain_bad_state.auto.scratch;
     }

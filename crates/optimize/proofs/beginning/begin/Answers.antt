@@ -14,7 +14,7 @@ pub judge_sequentials-requires : goal.judge_sequentials-requires
 judge_sequentials-requires c =
     record {
       table = c.requires.table;
-      given_bound = (c.requires.given_bound.0, omega (arith, c.requires.given_bound.1, c.set_up.auto.1.1.0));
+      given_bound = (c.requires.given_bound.0, omega (arith, c.requires.given_bound.1, c.set_up.auto.scratch));
     }
 
 pub returns : goal.returns

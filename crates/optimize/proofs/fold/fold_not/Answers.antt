@@ -6,6 +6,7 @@ use mathlib.Core.Logic.{⊎_elim}
 use borrow.Author.Tests.{eq-eqb, ne_eqb}
 use Rattle.rules.specs.Fold.{make}
 use Rattle.optimize.proofs.fold.fold_not.Goals as goal
+use Rattle.optimize.proofs.fold.fold_not.Goals.{then-sort-eq-BIT+else-imm-eq0+else-imm-eq1, else-sort-eq-BIT}
 
 pub returns-then-imm-eq0 : goal.returns-then-imm-eq0
 returns-then-imm-eq0 c =
@@ -17,7 +18,7 @@ returns-then-imm-eq1 c =
 
 pub returns : goal.returns
 returns c =
-    ⊎_elim
-    (λ w. rw (c.in-Imm.is, eq-eqb _ _ w.0.taken, ne_eqb _ _ w.1.left, ne_eqb _ _ w.2.left) (ap (λ z. make c.args.sort z) c.complement_in.ensures))
-    (λ w. rw (c.in-Imm.is, ne_eqb _ _ w.left) (ap (λ z. make c.args.sort z) c.complement_in.ensures))
-    c.if-sort-eq-BIT.branch
+    elim c.if-sort-eq-BIT.branch [
+      | then-sort-eq-BIT+else-imm-eq0+else-imm-eq1 w ↦ rw (c.in-Imm.is, eq-eqb _ _ w.if-sort-eq-BIT.true, ne_eqb _ _ w.if-imm-eq0.false, ne_eqb _ _ w.if-imm-eq1.false) (ap (λ z. make c.args.sort z) c.complement_in.ensures)
+      | else-sort-eq-BIT w ↦ rw (c.in-Imm.is, ne_eqb _ _ w.if-sort-eq-BIT.false) (ap (λ z. make c.args.sort z) c.complement_in.ensures)
+    ]

@@ -81,8 +81,8 @@ settle-requires-2 c =
     record {
       counted_at = (omega (arith, r.whole), r.small, r.inside);
       has_both = (r.room, omega (arith, r.asks));
-      counters_bound = subst (λ D. get_or D 0 0 < count_of c.args.given.now) (sym at-took-one.Took-one.ensures) r.few;
-      going = still-goes (one_taken (walk_in c.args.counters.now)) c.args.counters.now _ at-took-one.Took-one.ensures c.requires.going;
+      counters_bound = subst (λ D. get_or D 0 0 < count_of c.args.given.now) (sym c.took_one.ensures) r.few;
+      going = still-goes (one_taken (walk_in c.args.counters.now)) c.args.counters.now _ c.took_one.ensures c.requires.going;
     }
 
 pub returns : goal.returns
@@ -92,4 +92,4 @@ returns c =
     let result = c.args.res.now in
     let scratch = c.args.scratch.now in
     let counters = c.args.counters.now in
-    λ h replies mode. (h ++ (record { state = c.args.node; by = (new_number (table_of given) (ways_in dumps mode replies) (view h given c.args.inputs.now replies result scratch (walk_in counters))) } ∷ []), c.settle-2.ensures _ _ replies (ways_in dumps mode replies) ∙ ap (λ (w : Walk). settle (table_of given) (ways_in dumps mode replies) c.args.node (view (h ++ (record { state = c.args.node; by = (new_number (table_of given) (ways_in dumps mode replies) (view h given c.args.inputs.now replies result scratch (walk_in counters))) } ∷ [])) given c.args.inputs.now replies result scratch w) (make c.word-sort.result (get_or c.args.inputs.now (get_or counters 1 0) 0))) (walk_put (one_taken (walk_in counters)) counters _ at-took-one.Took-one.ensures) ∙ rw (c.word-sort.ensures, took h given c.args.inputs.now replies result scratch (walk_in counters) c.args.node (new_number (table_of given) (ways_in dumps mode replies) (view h given c.args.inputs.now replies result scratch (walk_in counters)))) (take-made given (ways_in dumps mode replies) (view h given c.args.inputs.now replies result scratch (walk_in counters)) c.args.node (get_or c.args.inputs.now (get_or counters 1 0) 0) (drop (suc (get_or counters 1 0)) c.args.inputs.now) (inputs-some h given c.args.inputs.now replies result scratch (walk_in counters) c.if-inputs-taken.false) (ap (λ k. (ways_in dumps mode replies).dump k) (sym c.operand.ensures) ∙ sym c.is_dump.ensures ∙ c.if-is_dump.false) (λ e. c.if-sort-eq-MEMORY.false (c.word-sort.ensures ∙ e)) (ap (λ s. fits s (get_or c.args.inputs.now (get_or counters 1 0) 0)) (sym c.word-sort.ensures) ∙ sym c.fits_sort.ensures ∙ c.if-not-fits_sort.false)))
+    λ h replies mode. (h ++ (record { state = c.args.node; by = (new_number (table_of given) (ways_in dumps mode replies) (view h given c.args.inputs.now replies result scratch (walk_in counters))) } ∷ []), c.settle-2.ensures _ _ replies (ways_in dumps mode replies) ∙ ap (λ (w : Walk). settle (table_of given) (ways_in dumps mode replies) c.args.node (view (h ++ (record { state = c.args.node; by = (new_number (table_of given) (ways_in dumps mode replies) (view h given c.args.inputs.now replies result scratch (walk_in counters))) } ∷ [])) given c.args.inputs.now replies result scratch w) (make c.word-sort.result (get_or c.args.inputs.now (get_or counters 1 0) 0))) (walk_put (one_taken (walk_in counters)) counters _ c.took_one.ensures) ∙ rw (c.word-sort.ensures, took h given c.args.inputs.now replies result scratch (walk_in counters) c.args.node (new_number (table_of given) (ways_in dumps mode replies) (view h given c.args.inputs.now replies result scratch (walk_in counters)))) (take-made given (ways_in dumps mode replies) (view h given c.args.inputs.now replies result scratch (walk_in counters)) c.args.node (get_or c.args.inputs.now (get_or counters 1 0) 0) (drop (suc (get_or counters 1 0)) c.args.inputs.now) (inputs-some h given c.args.inputs.now replies result scratch (walk_in counters) c.if-inputs-taken.false) (ap (λ k. (ways_in dumps mode replies).dump k) (sym c.operand.ensures) ∙ sym c.is_dump.ensures ∙ c.if-is_dump.false) (λ e. c.if-sort-eq-MEMORY.false (c.word-sort.ensures ∙ e)) (ap (λ s. fits s (get_or c.args.inputs.now (get_or counters 1 0) 0)) (sym c.word-sort.ensures) ∙ sym c.fits_sort.ensures ∙ c.if-not-fits_sort.false)))

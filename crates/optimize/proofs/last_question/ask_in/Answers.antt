@@ -20,13 +20,9 @@ ask_at-requires c =
       has_asks = omega (arith, c.requires.at_in_bounds.1, ap (λ z. length (take z c.args.scratch.now)) (zero-less c.args.at), length-take-le c.args.at c.args.scratch.now c.requires.at_in_bounds.0);
     }
 
-pub shape_of-scratch : goal.shape_of-scratch
-shape_of-scratch c =
-    part-whole c.args.scratch.now c.ask_at.new.1.1.0 c.args.at (c.args.at - 0) (omega arith) c.requires.at_in_bounds.0 c.ask_at.auto.1.1.0
-
 pub returns : goal.returns
 returns c =
     record {
-      asks_in = (λ h inputs R. ap (λ z. asked_of h c.args.given.now inputs c.args.replies.now c.ask_at.result R z) (part-front c.args.scratch.now c.ask_at.new.1.1.0 c.args.at (c.args.at - 0) (omega arith) c.requires.at_in_bounds.0 c.ask_at.auto.1.1.0) ∙ c.ask_at.ensures h inputs R ∙ ap (λ z. ask (length c.args.replies.now) (view h c.args.given.now inputs c.args.replies.now R (take z c.args.scratch.now) c.args.walk) c.args.kind c.args.first 0 []) (sym (zero-less c.args.at)));
-      scratch_unchanged = part-rest c.args.scratch.now c.ask_at.new.1.1.0 c.args.at (c.args.at - 0) (omega arith) c.requires.at_in_bounds.0 c.ask_at.auto.1.1.0;
+      asks_in = (λ h inputs R. ap (λ z. asked_of h c.args.given.now inputs c.args.replies.now c.ask_at.result R z) (part-front c.args.scratch.now c.ask_at.new.scratch c.args.at (c.args.at - 0) (omega arith) c.requires.at_in_bounds.0 c.ask_at.auto.scratch) ∙ c.ask_at.ensures h inputs R ∙ ap (λ z. ask (length c.args.replies.now) (view h c.args.given.now inputs c.args.replies.now R (take z c.args.scratch.now) c.args.walk) c.args.kind c.args.first 0 []) (sym (zero-less c.args.at)));
+      scratch_unchanged = part-rest c.args.scratch.now c.ask_at.new.scratch c.args.at (c.args.at - 0) (omega arith) c.requires.at_in_bounds.0 c.ask_at.auto.scratch;
     }

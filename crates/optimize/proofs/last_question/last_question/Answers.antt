@@ -23,16 +23,12 @@ ask_in-asked-requires c =
       at_in_bounds = (omega (arith, c.requires.at_le_list.0, c.requires.at_le_list.1), c.requires.at_le_list.2);
     }
 
-pub shape_of-scratch-then-kept-eq1 : goal.shape_of-scratch-then-kept-eq1
-shape_of-scratch-then-kept-eq1 c =
-    c.ask_in-asked.auto.1.1.0
-
 pub returns-then-kept-eq1 : goal.returns-then-kept-eq1
 returns-then-kept-eq1 c =
     let given = c.args.given.now in
     let scratch = c.args.scratch.now in
     record {
-      answers_last = (λ h inputs R m how z. last_one h given inputs c.args.replies.now R (take c.args.at scratch) (entries_of scratch c.args.list c.args.kept) c.args.walk m how z _ c.ask_in-asked.result (take c.args.at c.ask_in-asked.new.1.1.0) (c.verdict_of.ensures h given inputs c.args.replies.now R (take c.args.at c.ask_in-asked.new.1.1.0)) ((entries-length scratch c.args.list c.args.kept c.requires.at_le_list.1) ∙ c.if-kept-eq1.true) c.number-bad.result (c.number-bad.ensures ∙ first-place scratch c.args.list ∙ sym (entry_at scratch c.args.list c.args.kept c.requires.at_le_list.1 0 (omega arith))) (c.ask_in-asked.ensures.asks_in h inputs R));
+      answers_last = (λ h inputs R m how z. last_one h given inputs c.args.replies.now R (take c.args.at scratch) (entries_of scratch c.args.list c.args.kept) c.args.walk m how z _ c.ask_in-asked.result (take c.args.at c.ask_in-asked.new.scratch) (c.verdict_of.ensures h given inputs c.args.replies.now R (take c.args.at c.ask_in-asked.new.scratch)) ((entries-length scratch c.args.list c.args.kept c.requires.at_le_list.1) ∙ c.if-kept-eq1.true) c.number-bad.result (c.number-bad.ensures ∙ first-place scratch c.args.list ∙ sym (entry_at scratch c.args.list c.args.kept c.requires.at_le_list.1 0 (omega arith))) (c.ask_in-asked.ensures.asks_in h inputs R));
       scratch_unchanged = c.ask_in-asked.ensures.scratch_unchanged;
     }
 
@@ -43,15 +39,11 @@ ask_in-asked-requires-2 c =
       at_in_bounds = (omega (arith, c.requires.at_le_list.0, c.requires.at_le_list.1), c.requires.at_le_list.2);
     }
 
-pub shape_of-scratch : goal.shape_of-scratch
-shape_of-scratch c =
-    c.ask_in-asked-2.auto.1.1.0
-
 pub returns : goal.returns
 returns c =
     let given = c.args.given.now in
     let scratch = c.args.scratch.now in
     record {
-      answers_last = (λ h inputs R m how z. last_many h given inputs c.args.replies.now R (take c.args.at scratch) (entries_of scratch c.args.list c.args.kept) c.args.walk m how z _ c.ask_in-asked-2.result (take c.args.at c.ask_in-asked-2.new.1.1.0) (c.verdict_of-2.ensures h given inputs c.args.replies.now R (take c.args.at c.ask_in-asked-2.new.1.1.0)) (omega (arith, (entries-length scratch c.args.list c.args.kept c.requires.at_le_list.1), c.if-kept-eq0.false, c.if-kept-eq1.false)) c.args.kept (sym (entries-length scratch c.args.list c.args.kept c.requires.at_le_list.1)) (c.ask_in-asked-2.ensures.asks_in h inputs R));
+      answers_last = (λ h inputs R m how z. last_many h given inputs c.args.replies.now R (take c.args.at scratch) (entries_of scratch c.args.list c.args.kept) c.args.walk m how z _ c.ask_in-asked-2.result (take c.args.at c.ask_in-asked-2.new.scratch) (c.verdict_of-2.ensures h given inputs c.args.replies.now R (take c.args.at c.ask_in-asked-2.new.scratch)) (omega (arith, (entries-length scratch c.args.list c.args.kept c.requires.at_le_list.1), c.if-kept-eq0.false, c.if-kept-eq1.false)) c.args.kept (sym (entries-length scratch c.args.list c.args.kept c.requires.at_le_list.1)) (c.ask_in-asked-2.ensures.asks_in h inputs R));
       scratch_unchanged = c.ask_in-asked-2.ensures.scratch_unchanged;
     }

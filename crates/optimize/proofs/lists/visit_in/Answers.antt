@@ -21,10 +21,6 @@ visit_entry-requires c =
       node_bound = c.requires.at_in_bounds.1;
     }
 
-pub shape_of-scratch : goal.shape_of-scratch
-shape_of-scratch c =
-    part-whole c.args.scratch.now c.visit_entry.new.1.1.0 c.args.at (c.args.at - 0) (omega arith) c.requires.at_in_bounds.0 c.visit_entry.auto.1.1.0
-
 pub returns : goal.returns
 returns c =
     let given = c.args.given.now in
@@ -36,6 +32,6 @@ returns c =
     let replies = replies_in given call in
     let ways = ways_by given dumps call in
     record {
-      walks_in = (λ h f l. subst (λ z. Meets given inputs replies c.visit_entry.result c.visit_entry.new.1.0 z (visit_of given ways f (view h given inputs replies result (take c.args.at scratch) c.args.walk) c.args.node)) (sym (part-front scratch c.visit_entry.new.1.1.0 c.args.at (c.args.at - 0) (omega arith) c.requires.at_in_bounds.0 c.visit_entry.auto.1.1.0)) (subst (λ z. Meets given inputs replies c.visit_entry.result c.visit_entry.new.1.0 c.visit_entry.new.1.1.0 (visit_of given ways f (view h given inputs replies result (take z scratch) c.args.walk) c.args.node)) (sym (zero-less c.args.at)) (c.visit_entry.ensures h f l)));
-      scratch_unchanged = part-rest scratch c.visit_entry.new.1.1.0 c.args.at (c.args.at - 0) (omega arith) c.requires.at_in_bounds.0 c.visit_entry.auto.1.1.0;
+      walks_in = (λ h f l. subst (λ z. Meets given inputs replies c.visit_entry.result c.visit_entry.new.res z (visit_of given ways f (view h given inputs replies result (take c.args.at scratch) c.args.walk) c.args.node)) (sym (part-front scratch c.visit_entry.new.scratch c.args.at (c.args.at - 0) (omega arith) c.requires.at_in_bounds.0 c.visit_entry.auto.scratch)) (subst (λ z. Meets given inputs replies c.visit_entry.result c.visit_entry.new.res c.visit_entry.new.scratch (visit_of given ways f (view h given inputs replies result (take z scratch) c.args.walk) c.args.node)) (sym (zero-less c.args.at)) (c.visit_entry.ensures h f l)));
+      scratch_unchanged = part-rest scratch c.visit_entry.new.scratch c.args.at (c.args.at - 0) (omega arith) c.requires.at_in_bounds.0 c.visit_entry.auto.scratch;
     }

@@ -8,23 +8,28 @@ use Rattle.btor.specs.Readings.{reading_is}
 use Rattle.optimize.specs.Bounds.{count_of}
 use Rattle.optimize.proofs.SearchLaws.{Searched, search_start, search_settled, search_unsettled, hit_within, search_hit, stop_within, search_stop, search_end}
 use Rattle.optimize.proofs.memory.find_in_memory.Goals as goal
+use Rattle.optimize.proofs.memory.find_in_memory.Goals.{in-Settled, in-Unsettled}
 
 pub loop-value-init : goal.loop-value-init
 loop-value-init c = search_start _ _ _ _ _ _
 
 pub loop-value-smaller : goal.loop-value-smaller
 loop-value-smaller c =
-    ⊎_elim
-    (λ w. let q = (search_settled _ _ _ _ _ _ _ _ _ c.loop-value.invariant _ c.look_at.ensures _ _ _ w.1.given.1 w.3 w.4).within in omega arith)
-    (λ w. let q = (search_unsettled _ _ _ _ _ _ _ _ _ c.loop-value.invariant _ c.look_at.ensures _ _ _ w.1.given.1 w.3 w.4).within in omega arith)
-    c.match-look_at.branch
+    elim c.match-look_at.branch [
+      | in-Settled w ↦
+        let q = (search_settled _ _ _ _ _ _ _ _ _ c.loop-value.invariant _ c.look_at.ensures _ _ _ w.in-Settled.is w.at-is w.passed-is).within in
+        omega arith
+      | in-Unsettled w ↦
+        let q = (search_unsettled _ _ _ _ _ _ _ _ _ c.loop-value.invariant _ c.look_at.ensures _ _ _ w.in-Unsettled.is w.at-is w.passed-is).within in
+        omega arith
+    ]
 
 pub loop-value-preserved : goal.loop-value-preserved
 loop-value-preserved c =
-    ⊎_elim
-    (λ w. search_settled _ _ _ _ _ _ _ _ _ c.loop-value.invariant _ c.look_at.ensures _ _ _ w.1.given.1 w.3 w.4)
-    (λ w. search_unsettled _ _ _ _ _ _ _ _ _ c.loop-value.invariant _ c.look_at.ensures _ _ _ w.1.given.1 w.3 w.4)
-    c.match-look_at.branch
+    elim c.match-look_at.branch [
+      | in-Settled w ↦ search_settled _ _ _ _ _ _ _ _ _ c.loop-value.invariant _ c.look_at.ensures _ _ _ w.in-Settled.is w.at-is w.passed-is
+      | in-Unsettled w ↦ search_unsettled _ _ _ _ _ _ _ _ _ c.loop-value.invariant _ c.look_at.ensures _ _ _ w.in-Unsettled.is w.at-is w.passed-is
+    ]
 
 pub returns-in-End : goal.returns-in-End
 returns-in-End c =

@@ -13,6 +13,6 @@ returns c =
     let ws = a.words.now in
     let house = c.house.ensures in
     record {
-      result_value = c.judge.ensures.result_value ∙ ap (λ (l : Limits). judged_count l a.mode ws a.names.now a.result-room a.scratch-room) house;
+      result_value = c.judge.ensures.result_value ∙ ap (λ (l : Limits). judged_count l a.mode ws a.names.now a.result_room a.scratch_room) house;
       cut = λ s k e. subst (λ (l : Limits). IsCut l ws s) house (c.judge.ensures.cut s k e);
     }

@@ -22,10 +22,7 @@ pub loop-i-smaller : goal.loop-i-smaller
 loop-i-smaller c = rw length-set (omega arith)
 
 pub loop-i-preserved : goal.loop-i-preserved
-loop-i-preserved c = c.loop-i.invariant in (omega arith, rw length-set (omega arith), simp length-set v.2, clear_turn _ _ _ _ v.0 c.loop-i-test.true v.3)
-
-pub shape_of-buffer : goal.shape_of-buffer
-shape_of-buffer c = c.loop-i.invariant.2
+loop-i-preserved c = let v = c.loop-i.invariant in (omega arith, rw length-set (omega arith), simp length-set v.2, clear_turn _ _ _ _ v.0 c.loop-i-test.true v.3)
 
 pub returns : goal.returns
-returns c = c.loop-i.invariant in clear_end _ _ _ _ v.0 v.1 c.loop-i-test.false v.2 v.3
+returns c = let v = c.loop-i.invariant in clear_end _ _ _ _ v.0 v.1 c.loop-i-test.false v.2 v.3

@@ -16,8 +16,5 @@ pub loop-i-preserved : goal.loop-i-preserved
 loop-i-preserved c =
     let v = c.loop-i.invariant in (omega arith, simp length-set v.1, copy_turn c.args.source.now c.loop-i.target c.args.target.now c.args.start c.args.at c.loop-i.i (omega arith) (omega arith) v.2)
 
-pub shape_of-target : goal.shape_of-target
-shape_of-target c = c.loop-i.invariant.1
-
 pub returns : goal.returns
-returns c = omega arith in v.2 ∙ ap (λ (k : ℕ). paste c.args.target.now c.args.at (drop c.args.start c.args.source.now) k) e
+returns c = let v = c.loop-i.invariant in let e : c.loop-i.i ≡ c.args.count = omega arith in v.2 ∙ ap (λ (k : ℕ). paste c.args.target.now c.args.at (drop c.args.start c.args.source.now) k) e

@@ -10,6 +10,7 @@ use Rattle.rules.specs.Result.{is_replaced}
 use Rattle.optimize.specs.View.{mark_of}
 use Rattle.optimize.proofs.WriteLaws.{count_low, count-high}
 use Rattle.optimize.proofs.result.count_replaced.Goals as goal
+use Rattle.optimize.proofs.result.count_replaced.Goals.{then-scratch-i-ge2, else-scratch-i-ge2}
 
 pub loop-i-init : goal.loop-i-init
 unfolding sum
@@ -18,10 +19,10 @@ loop-i-init c = (omega arith, omega arith, refl)
 pub loop-i-preserved : goal.loop-i-preserved
 loop-i-preserved c =
     let S = c.args.scratch.now in let n = c.args.n in let i = c.loop-i.i in
-    ⊎_elim
-    (λ w. (omega arith, omega arith, omega (arith, count-high n S i (omega arith) (omega arith), c.loop-i.invariant.2)))
-    (λ w. (omega arith, omega arith, omega (arith, count_low n S i (omega arith) (omega arith), c.loop-i.invariant.2)))
-    c.if-scratch-i-ge2.branch
+    elim c.if-scratch-i-ge2.branch [
+      | then-scratch-i-ge2 w ↦ (omega arith, omega arith, omega (arith, count-high n S i (omega arith) (omega arith), c.loop-i.invariant.2))
+      | else-scratch-i-ge2 w ↦ (omega arith, omega arith, omega (arith, count_low n S i (omega arith) (omega arith), c.loop-i.invariant.2))
+    ]
 
 pub returns : goal.returns
 returns c =

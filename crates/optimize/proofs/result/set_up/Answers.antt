@@ -24,10 +24,6 @@ pub slice_bounds-clear-end : goal.slice_bounds-clear-end
 slice_bounds-clear-end c =
     omega (arith, c.requires.scratch)
 
-pub shape_of-scratch : goal.shape_of-scratch
-shape_of-scratch c =
-    length_front c.args.scratch.now c.clear.new.0 (count_of c.args.given.now - 0) c.clear.auto.0
-
 pub returns : goal.returns
 returns c =
     set_up_left c.args.given.now c.args.res.now _ c.args.scratch.now _ _ c.requires c.copy_words.ensures (sym (zero-less _)) c.clear.ensures

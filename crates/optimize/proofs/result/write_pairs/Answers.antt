@@ -19,17 +19,14 @@ loop-i-preserved c =
     (
       omega arith,
       omega (arith, c.write_pair-place.ensures.upper_bound),
-      c.write_pair-place.auto.1.1.1.0 ∙ c.loop-i.invariant.2,
-      wrote_more c.args.res.now c.loop-i.result _ c.args.at c.loop-i.place c.write_pair-place.result c.loop-i.i (λ (k : ℕ). mark_words k (mark_of c.args.n c.args.scratch.now k)) c.loop-i.invariant.3 c.write_pair-place.ensures.writes,
+      c.write_pair-place.auto.res ∙ c.loop-i.invariant.2,
+      wrote_more c.args.res.now c.loop-i.res _ c.args.at c.loop-i.place c.write_pair-place.result c.loop-i.i (λ (k : ℕ). mark_words k (mark_of c.args.n c.args.scratch.now k)) c.loop-i.invariant.3 c.write_pair-place.ensures.writes,
     )
-
-pub shape_of-res : goal.shape_of-res
-shape_of-res c = c.loop-i.invariant.2
 
 pub returns : goal.returns
 returns c =
     let e : c.loop-i.i ≡ c.args.n = omega arith in
     record {
-      writes = subst (λ (k : ℕ). Wrote c.args.res.now c.loop-i.result c.args.at c.loop-i.place (gather k 0 (λ (k : ℕ). mark_words k (mark_of c.args.n c.args.scratch.now k)))) e c.loop-i.invariant.3;
+      writes = subst (λ (k : ℕ). Wrote c.args.res.now c.loop-i.res c.args.at c.loop-i.place (gather k 0 (λ (k : ℕ). mark_words k (mark_of c.args.n c.args.scratch.now k)))) e c.loop-i.invariant.3;
       upper_bound = omega arith;
     }

@@ -17,10 +17,6 @@ pub write_pairs-requires : goal.write_pairs-requires
 write_pairs-requires c =
     (c.requires.0, simp length-set (omega arith))
 
-pub shape_of-res : goal.shape_of-res
-shape_of-res c =
-    c.write_pairs.auto.1.1.0 ∙ length-set c.args.res.now c.args.at c.count_replaced-count.result
-
 pub returns : goal.returns
 returns c =
     record {

@@ -11,15 +11,11 @@ write_section-one-requires c = (omega arith, omega arith)
 
 pub write_section-two-requires : goal.write_section-two-requires
 write_section-two-requires c =
-    (omega arith, omega (arith, c.write_section-one.ensures.value, c.write_section-one.auto.1.1.1.1.0))
+    (omega arith, omega (arith, c.write_section-one.ensures.value, c.write_section-one.auto.res))
 
 pub write_tally-requires : goal.write_tally-requires
 write_tally-requires c =
-    omega (arith, c.write_section-one.ensures.value, c.write_section-one.auto.1.1.1.1.0, c.write_section-two.ensures.value, c.write_section-two.auto.1.1.1.1.0)
-
-pub shape_of-res : goal.shape_of-res
-shape_of-res c =
-    c.write_tally.auto.1.1.0 ∙ c.write_section-two.auto.1.1.1.1.0 ∙ c.write_section-one.auto.1.1.1.1.0
+    omega (arith, c.write_section-one.ensures.value, c.write_section-one.auto.res, c.write_section-two.ensures.value, c.write_section-two.auto.res)
 
 pub returns : goal.returns
 returns c =

@@ -41,37 +41,33 @@ write_counts-counted-requires c =
 
 pub write_replacements-replaced-requires : goal.write_replacements-replaced-requires
 write_replacements-replaced-requires c =
-    (omega (arith, c.requires.scratch), omega (arith, c.requires.room, c.requires.made, c.write_counts-counted.ensures.value, c.write_counts-counted.auto.1.1.0))
+    (omega (arith, c.requires.scratch), omega (arith, c.requires.room, c.requires.made, c.write_counts-counted.ensures.value, c.write_counts-counted.auto.res))
 
 pub write_lists-listed-requires : goal.write_lists-listed-requires
 write_lists-listed-requires c =
     record {
       kept_in = record { sequentials = c.requires.sequentials; initial = c.requires.initial; later = c.requires.later; room = omega (arith, c.requires.scratch) };
-      later_in_bounds = omega (arith, c.requires.room, c.requires.made, c.write_counts-counted.ensures.value, c.write_counts-counted.auto.1.1.0, c.write_replacements-replaced.ensures.upper_bound, c.write_replacements-replaced.auto.1.1.0);
+      later_in_bounds = omega (arith, c.requires.room, c.requires.made, c.write_counts-counted.ensures.value, c.write_counts-counted.auto.res, c.write_replacements-replaced.ensures.upper_bound, c.write_replacements-replaced.auto.res);
     }
 
 pub write_rest-end-requires : goal.write_rest-end-requires
 write_rest-end-requires c =
     record {
       taken_in_bounds = (c.requires.taken, omega (arith, c.requires.scratch, c.requires.asked));
-      asked_in_bounds = omega (arith, c.requires.room, c.requires.made, c.requires.asked, c.write_counts-counted.ensures.value, c.write_counts-counted.auto.1.1.0, c.write_replacements-replaced.ensures.upper_bound, c.write_replacements-replaced.auto.1.1.0, c.write_lists-listed.ensures.upper_bound, c.write_lists-listed.auto.1.1.1.1.0);
+      asked_in_bounds = omega (arith, c.requires.room, c.requires.made, c.requires.asked, c.write_counts-counted.ensures.value, c.write_counts-counted.auto.res, c.write_replacements-replaced.ensures.upper_bound, c.write_replacements-replaced.auto.res, c.write_lists-listed.ensures.upper_bound, c.write_lists-listed.auto.res);
     }
 
 pub clear_from-requires : goal.clear_from-requires
 clear_from-requires c = tt
 
-pub shape_of-res : goal.shape_of-res
-shape_of-res c =
-    c.clear_from.auto.0 ∙ c.write_rest-end.auto.1.1.1.1.1.0 ∙ c.write_lists-listed.auto.1.1.1.1.0 ∙ c.write_replacements-replaced.auto.1.1.0 ∙ c.write_counts-counted.auto.1.1.0
-
 pub returns : goal.returns
 returns c =
     let a = c.args in
-    let same = c.write_rest-end.auto.1.1.1.1.1.0 ∙ c.write_lists-listed.auto.1.1.1.1.0 ∙ c.write_replacements-replaced.auto.1.1.0 ∙ c.write_counts-counted.auto.1.1.0 in
+    let same = c.write_rest-end.auto.res ∙ c.write_lists-listed.auto.res ∙ c.write_replacements-replaced.auto.res ∙ c.write_counts-counted.auto.res in
     let wrote =
     wrote_then _ _ _ _ _ _ _ _ c.write_counts-counted.ensures.writes
     (wrote_then _ _ _ _ _ _ _ _ c.write_replacements-replaced.ensures.writes
     (wrote_then _ _ _ _ _ _ _ _ c.write_lists-listed.ensures.writes c.write_rest-end.ensures)) in
     λ h d replies m model used.
-    handed_back h d a.given.now a.inputs.now replies a.result.now a.scratch.now a.walk a.kept a.sizes a.verdict m c.requires model used
+    handed_back h d a.given.now a.inputs.now replies a.res.now a.scratch.now a.walk a.kept a.sizes a.verdict m c.requires model used
     _ _ _ same wrote c.clear_from.ensures

@@ -11,10 +11,6 @@ pub copy_words-requires : goal.copy_words-requires
 copy_words-requires c =
     (c.requires.0, simp length-set (omega arith))
 
-pub shape_of-res : goal.shape_of-res
-shape_of-res c =
-    c.copy_words.auto.1.1.1.0 ∙ length-set c.args.res.now c.args.at c.args.count
-
 pub returns : goal.returns
 returns c =
     record {

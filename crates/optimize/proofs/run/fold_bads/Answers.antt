@@ -31,7 +31,7 @@ pub judge_bads-last-requires : goal.judge_bads-last-requires
 judge_bads-last-requires c =
     let u = c.requires in
     let left = c.judge_bads-first.ensures.leaves_bads in
-    let S-same = c.judge_bads-first.auto.1.1.1.0 in
+    let S-same = c.judge_bads-first.auto.scratch in
     let spare-1 = left.spare _ _ (length c.args.later.now + 1) c.in-Done.is u.spare in
     record {
       laid_by = left.laid _ _ c.in-Done.is;
@@ -44,8 +44,8 @@ write_call-requires c =
     let u = c.requires in
     let left = c.judge_bads-first.ensures.leaves_bads in
     let then-left = c.judge_bads-last.ensures.leaves_bads in
-    let T-same = c.judge_bads-last.auto.1.1.1.0 ∙ c.judge_bads-first.auto.1.1.1.0 in
-    let Q-same = c.judge_bads-last.auto.1.1.0 ∙ c.judge_bads-first.auto.1.1.0 in
+    let T-same = c.judge_bads-last.auto.scratch ∙ c.judge_bads-first.auto.scratch in
+    let Q-same = c.judge_bads-last.auto.res ∙ c.judge_bads-first.auto.res in
     let spare-1 = left.spare _ _ (length c.args.later.now + 1) c.in-Done.is u.spare in
     let spare-2 = then-left.spare _ _ 1 c.in-Done-last.is spare-1 in
     ended _ _ _ _ _ _ _ _ _ _ _ _ _ u _ _ _ _ Q-same T-same (then-left.laid _ _ c.in-Done-last.is) spare-2 u.fewer (left.few _ _ c.in-Done.is) (then-left.few _ _ c.in-Done-last.is)
@@ -63,11 +63,6 @@ returns-in-Refused-last c =
     let with-last = c.judge_bads-last.ensures.judges_bads in
     λ h. let p = with_first h in let q = with-last p.0 in later_ends _ _ _ _ _ _ _ _ _ _ _ _ _ u _ c.terminates-terminate.ensures _ _ _ _ _ (judged-done _ _ _ _ _ _ _ _ _ _ _ p.2 _ _ c.in-Done.is) (judged-refused _ _ _ _ _ _ _ _ _ _ _ q.2 _ c.in-Refused-last.is)
 
-pub shape_of-res-in-Done-last : goal.shape_of-res-in-Done-last
-shape_of-res-in-Done-last c =
-    let Q-same = c.judge_bads-last.auto.1.1.0 ∙ c.judge_bads-first.auto.1.1.0 in
-    c.write_call.auto.1.1.0 ∙ Q-same
-
 pub returns-in-Done-last : goal.returns-in-Done-last
 returns-in-Done-last c =
     let u = c.requires in
@@ -75,9 +70,9 @@ returns-in-Done-last c =
     let then-left = c.judge_bads-last.ensures.leaves_bads in
     let with_first = c.judge_bads-first.ensures.judges_bads in
     let with-last = c.judge_bads-last.ensures.judges_bads in
-    let S-same = c.judge_bads-first.auto.1.1.1.0 in
-    let T-same = c.judge_bads-last.auto.1.1.1.0 ∙ c.judge_bads-first.auto.1.1.1.0 in
-    let Q-same = c.judge_bads-last.auto.1.1.0 ∙ c.judge_bads-first.auto.1.1.0 in
+    let S-same = c.judge_bads-first.auto.scratch in
+    let T-same = c.judge_bads-last.auto.scratch ∙ c.judge_bads-first.auto.scratch in
+    let Q-same = c.judge_bads-last.auto.res ∙ c.judge_bads-first.auto.res in
     let spare-1 = left.spare _ _ (length c.args.later.now + 1) c.in-Done.is u.spare in
     let spare-2 = then-left.spare _ _ 1 c.in-Done-last.is spare-1 in
     λ h. let p = with_first h in let q = with-last p.0 in both_ended _ _ _ _ _ _ _ _ _ _ _ _ _ u _ c.terminates-terminate.ensures _ _ _ _ p.0 q.0 p.1 q.1 _ _ _ _ _ _ _ _ (judged-done _ _ _ _ _ _ _ _ _ _ _ p.2 _ _ c.in-Done.is) (judged-done _ _ _ _ _ _ _ _ _ _ _ q.2 _ _ c.in-Done-last.is) left.still then-left.still S-same T-same (left.few _ _ c.in-Done.is) spare-2 (c.write_call.ensures q.0 _ _ (model_of _ _ _ _ _ _ _ _ _ _ _ _ _ u)) Q-same

@@ -39,7 +39,7 @@ put_last_question-last-requires c =
     let u = c.requires in
     let fit = lists_fit _ _ _ _ _ _ _ _ _ _ _ _ _ u in
     let left = c.judge_bads-first.ensures.leaves_bads in
-    let S-same = c.judge_bads-first.auto.1.1.1.0 in
+    let S-same = c.judge_bads-first.auto.scratch in
     let spare-1 = left.spare _ _ (length c.args.later.now + 1) c.in-Done.is u.spare in
     record {
       counted = (omega (arith, u.runnable.whole), u.runnable.small);
@@ -50,15 +50,15 @@ pub copy_words-requires : goal.copy_words-requires
 copy_words-requires c =
     let u = c.requires in
     let fit = lists_fit _ _ _ _ _ _ _ _ _ _ _ _ _ u in
-    let S2-same = c.put_last_question-last.auto.1.1.0 ∙ c.judge_bads-first.auto.1.1.1.0 in
+    let S2-same = c.put_last_question-last.auto.scratch ∙ c.judge_bads-first.auto.scratch in
     (omega arith, omega (arith, fit, S2-same))
 
 pub write_call-requires : goal.write_call-requires
 write_call-requires c =
     let u = c.requires in
     let left = c.judge_bads-first.ensures.leaves_bads in
-    let Q-same = c.judge_bads-first.auto.1.1.0 in
-    let S2-same = c.put_last_question-last.auto.1.1.0 ∙ c.judge_bads-first.auto.1.1.1.0 in
+    let Q-same = c.judge_bads-first.auto.res in
+    let S2-same = c.put_last_question-last.auto.scratch ∙ c.judge_bads-first.auto.scratch in
     let laid-1 = left.laid _ _ c.in-Done.is in
     let spare-1 = left.spare _ _ (length c.args.later.now + 1) c.in-Done.is u.spare in
     let g = c.args.given.now in
@@ -67,7 +67,7 @@ write_call-requires c =
     let last-1 = answered-done _ _ _ _ _ _ _ _ (c.put_last_question-last.ensures.answers_last laid-1.held (inputs_in c.args.given.now c.args.call.now) _ m how refl) _ _ c.in-Done-last.is in
     let made = last_made _ _ _ _ _ _ _ _ _ _ _ _ _ u _ _ _ _ _ _ _ laid-1 spare-1 last-1 in
     let asks = last-asks _ _ _ _ _ _ _ _ _ _ _ _ _ u _ _ _ _ _ _ _ laid-1 spare-1 last-1 in
-    once-ended _ _ _ _ _ _ _ _ _ _ _ _ _ u _ _ _ _ _ _ Q-same (c.copy_words.auto.1.1.1.0 ∙ S2-same) laid-1 made asks u.fewer (left.few _ _ c.in-Done.is) (omega arith)
+    once-ended _ _ _ _ _ _ _ _ _ _ _ _ _ u _ _ _ _ _ _ Q-same (c.copy_words.auto.target ∙ S2-same) laid-1 made asks u.fewer (left.few _ _ c.in-Done.is) (omega arith)
 
 pub returns-in-Refused : goal.returns-in-Refused
 returns-in-Refused c =
@@ -84,16 +84,6 @@ returns-in-Refused-last c =
     let with_first = c.judge_bads-first.ensures.judges_bads in
     λ h. let p = with_first h in once_last _ _ _ _ _ _ _ _ _ _ _ _ _ u _ _ _ _ _ (judged-done _ _ _ _ _ _ _ _ _ _ _ p.2 _ _ c.in-Done.is) (answered-refused _ _ _ _ _ _ _ _ (c.put_last_question-last.ensures.answers_last p.0 (inputs_in c.args.given.now c.args.call.now) _ m how refl) _ c.in-Refused-last.is)
 
-pub shape_of-res-in-Done-last : goal.shape_of-res-in-Done-last
-shape_of-res-in-Done-last c =
-    let Q-same = c.judge_bads-first.auto.1.1.0 in
-    c.write_call.auto.1.1.0 ∙ Q-same
-
-pub shape_of-scratch-in-Done-last : goal.shape_of-scratch-in-Done-last
-shape_of-scratch-in-Done-last c =
-    let S2-same = c.put_last_question-last.auto.1.1.0 ∙ c.judge_bads-first.auto.1.1.1.0 in
-    c.copy_words.auto.1.1.1.0 ∙ S2-same
-
 pub returns-in-Done-last : goal.returns-in-Done-last
 returns-in-Done-last c =
     let u = c.requires in
@@ -102,9 +92,9 @@ returns-in-Done-last c =
     let how = mode_in c.args.call.now in
     let left = c.judge_bads-first.ensures.leaves_bads in
     let with_first = c.judge_bads-first.ensures.judges_bads in
-    let S-same = c.judge_bads-first.auto.1.1.1.0 in
-    let Q-same = c.judge_bads-first.auto.1.1.0 in
-    let S2-same = c.put_last_question-last.auto.1.1.0 ∙ c.judge_bads-first.auto.1.1.1.0 in
+    let S-same = c.judge_bads-first.auto.scratch in
+    let Q-same = c.judge_bads-first.auto.res in
+    let S2-same = c.put_last_question-last.auto.scratch ∙ c.judge_bads-first.auto.scratch in
     let spare-1 = left.spare _ _ (length c.args.later.now + 1) c.in-Done.is u.spare in
     let laid-1 = left.laid _ _ c.in-Done.is in
     let last-1 = answered-done _ _ _ _ _ _ _ _ (c.put_last_question-last.ensures.answers_last laid-1.held (inputs_in c.args.given.now c.args.call.now) _ m how refl) _ _ c.in-Done-last.is in

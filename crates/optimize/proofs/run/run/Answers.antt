@@ -47,8 +47,8 @@ visit_all-walked-requires c =
     let mode = (mode_in c.args.call.now) in
     let u = c.requires in
     let place = c.lists_at-at.ensures in
-    let R-same = c.begin-kept.auto.1.1.0 in
-    let S-same = c.begin-kept.auto.1.1.1.0 in
+    let R-same = c.begin-kept.auto.res in
+    let S-same = c.begin-kept.auto.scratch in
     let fewer = c.begin-kept.ensures.upper_bound in
     let judged = c.begin-kept.ensures.begins in
     let fresh-walk = c.untouched.ensures in
@@ -72,22 +72,16 @@ fold_once-requires c =
     let mode = (mode_in c.args.call.now) in
     let u = c.requires in
     let place = c.lists_at-at.ensures in
-    let R-same = c.begin-kept.auto.1.1.0 in
-    let S-same = c.begin-kept.auto.1.1.1.0 in
+    let R-same = c.begin-kept.auto.res in
+    let S-same = c.begin-kept.auto.scratch in
     let fewer = c.begin-kept.ensures.upper_bound in
     let judged = c.begin-kept.ensures.begins in
-    let Q-same = c.visit_all-walked.auto.1.0 in
-    let T-same = c.visit_all-walked.auto.1.1.0 in
+    let Q-same = c.visit_all-walked.auto.res in
+    let T-same = c.visit_all-walked.auto.scratch in
     let goes = c.visit_all-walked.ensures.walks_all in
     let laid = c.visit_all-walked.ensures.stays_laid in
     let fresh-walk = c.untouched.ensures in
     run_underway g dumps ss initial later ins reps r s u mode _ _ _ _ R-same S-same place fewer judged _ _ _ fresh-walk _ goes _ c.in-Done.is Q-same T-same (laid _ c.in-Done.is)
-
-pub shape_of-res-then-once : goal.shape_of-res-then-once
-shape_of-res-then-once c =
-    let R-same = c.begin-kept.auto.1.1.0 in
-    let Q-same = c.visit_all-walked.auto.1.0 in
-    c.fold_once.auto.1.1.1.1.0 ∙ Q-same ∙ R-same
 
 pub returns-then-once : goal.returns-then-once
 returns-then-once c =
@@ -103,11 +97,11 @@ returns-then-once c =
     let mode = (mode_in c.args.call.now) in
     let u = c.requires in
     let place = c.lists_at-at.ensures in
-    let R-same = c.begin-kept.auto.1.1.0 in
-    let S-same = c.begin-kept.auto.1.1.1.0 in
+    let R-same = c.begin-kept.auto.res in
+    let S-same = c.begin-kept.auto.scratch in
     let fewer = c.begin-kept.ensures.upper_bound in
     let judged = c.begin-kept.ensures.begins in
-    let Q-same = c.visit_all-walked.auto.1.0 in
+    let Q-same = c.visit_all-walked.auto.res in
     let goes = c.visit_all-walked.ensures.walks_all in
     let still = c.visit_all-walked.ensures.scratch_unchanged in
     let fresh-walk = c.untouched.ensures in
@@ -127,12 +121,12 @@ fold_bads-requires c =
     let mode = (mode_in c.args.call.now) in
     let u = c.requires in
     let place = c.lists_at-at.ensures in
-    let R-same = c.begin-kept.auto.1.1.0 in
-    let S-same = c.begin-kept.auto.1.1.1.0 in
+    let R-same = c.begin-kept.auto.res in
+    let S-same = c.begin-kept.auto.scratch in
     let fewer = c.begin-kept.ensures.upper_bound in
     let judged = c.begin-kept.ensures.begins in
-    let Q-same = c.visit_all-walked.auto.1.0 in
-    let T-same = c.visit_all-walked.auto.1.1.0 in
+    let Q-same = c.visit_all-walked.auto.res in
+    let T-same = c.visit_all-walked.auto.scratch in
     let goes = c.visit_all-walked.ensures.walks_all in
     let laid = c.visit_all-walked.ensures.stays_laid in
     let fresh-walk = c.untouched.ensures in
@@ -152,19 +146,13 @@ returns-in-Refused c =
     let mode = (mode_in c.args.call.now) in
     let u = c.requires in
     let place = c.lists_at-at.ensures in
-    let R-same = c.begin-kept.auto.1.1.0 in
-    let S-same = c.begin-kept.auto.1.1.1.0 in
+    let R-same = c.begin-kept.auto.res in
+    let S-same = c.begin-kept.auto.scratch in
     let fewer = c.begin-kept.ensures.upper_bound in
     let judged = c.begin-kept.ensures.begins in
     let goes = c.visit_all-walked.ensures.walks_all in
     let fresh-walk = c.untouched.ensures in
     run_refused g dumps ss initial later ins reps r s u mode _ _ _ _ R-same S-same place fewer judged _ _ _ fresh-walk _ goes _ _ c.in-Refused.is
-
-pub shape_of-res-else-once : goal.shape_of-res-else-once
-shape_of-res-else-once c =
-    let R-same = c.begin-kept.auto.1.1.0 in
-    let Q-same = c.visit_all-walked.auto.1.0 in
-    c.fold_bads.auto.1.1.1.1.0 ∙ Q-same ∙ R-same
 
 pub returns-else-once : goal.returns-else-once
 returns-else-once c =
@@ -180,11 +168,11 @@ returns-else-once c =
     let mode = (mode_in c.args.call.now) in
     let u = c.requires in
     let place = c.lists_at-at.ensures in
-    let R-same = c.begin-kept.auto.1.1.0 in
-    let S-same = c.begin-kept.auto.1.1.1.0 in
+    let R-same = c.begin-kept.auto.res in
+    let S-same = c.begin-kept.auto.scratch in
     let fewer = c.begin-kept.ensures.upper_bound in
     let judged = c.begin-kept.ensures.begins in
-    let Q-same = c.visit_all-walked.auto.1.0 in
+    let Q-same = c.visit_all-walked.auto.res in
     let goes = c.visit_all-walked.ensures.walks_all in
     let still = c.visit_all-walked.ensures.scratch_unchanged in
     let fresh-walk = c.untouched.ensures in

@@ -30,10 +30,7 @@ judge_sequential-kept-requires c =
 
 pub loop-i-preserved : goal.loop-i-preserved
 loop-i-preserved c =
-    (omega arith, omega (arith, c.judge_sequential-kept.ensures.upper_bound), c.judge_sequential-kept.auto.1.0 ∙ c.loop-i.invariant.2, λ h inputs replies R w l. c.loop-i.invariant.3 h inputs replies R w l ∙ ap (λ z. joined (entries_of c.loop-i.scratch c.args.at c.loop-i.auto) (judge_sequentials (table_of c.args.given.now) (view h c.args.given.now inputs replies R c.loop-i.scratch w) z)) (drop-cons c.args.sequentials.now c.loop-i.i 0 (omega arith) ∙ rw (add-one, c.number.ensures)) ∙ c.judge_sequential-kept.ensures.judges_next h inputs replies R (drop (c.loop-i.i + 1) c.args.sequentials.now) w l)
-
-pub shape_of-scratch : goal.shape_of-scratch
-shape_of-scratch c = c.loop-i.invariant.2
+    (omega arith, omega (arith, c.judge_sequential-kept.ensures.upper_bound), c.judge_sequential-kept.auto.scratch ∙ c.loop-i.invariant.2, λ h inputs replies R w l. c.loop-i.invariant.3 h inputs replies R w l ∙ ap (λ z. joined (entries_of c.loop-i.scratch c.args.at c.loop-i.kept) (judge_sequentials (table_of c.args.given.now) (view h c.args.given.now inputs replies R c.loop-i.scratch w) z)) (drop-cons c.args.sequentials.now c.loop-i.i 0 (omega arith) ∙ rw (add-one, c.number.ensures)) ∙ c.judge_sequential-kept.ensures.judges_next h inputs replies R (drop (c.loop-i.i + 1) c.args.sequentials.now) w l)
 
 pub returns : goal.returns
 returns c =

@@ -22,7 +22,7 @@ pub then_ask-requires : goal.then_ask-requires
 then_ask-requires c =
     record {
       counted = c.requires.counted;
-      has_asks = omega (arith, c.requires.has_asks, c.ask_or-first.ensures.at_most.1, c.ask_or-first.auto.1.1.0);
+      has_asks = omega (arith, c.requires.has_asks, c.ask_or-first.ensures.at_most.1, c.ask_or-first.auto.scratch);
     }
 
 pub returns : goal.returns

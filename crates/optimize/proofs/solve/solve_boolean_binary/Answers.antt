@@ -20,7 +20,7 @@ settle_solved-requires c =
     let r = c.requires.room in
     record {
       counted_at = (omega (arith, r.whole), r.small, r.inside);
-      has_both = (r.room, omega (arith, r.asks, c.ask_bit-solved.auto.1.1.0));
+      has_both = (r.room, omega (arith, r.asks, c.ask_bit-solved.auto.scratch));
       counters_bound = omega (arith, r.few, c.ask_bit-solved.ensures.at_most.0);
     }
 

@@ -22,7 +22,7 @@ then_ask-solved-requires c =
     let r = c.requires.room in
     record {
       counted = (omega (arith, r.whole), r.small);
-      has_asks = omega (arith, r.asks, c.ask_or-left.ensures.at_most.1, c.ask_or-left.auto.1.1.0);
+      has_asks = omega (arith, r.asks, c.ask_or-left.ensures.at_most.1, c.ask_or-left.auto.scratch);
     }
 
 pub settle_solved-requires : goal.settle_solved-requires
@@ -30,7 +30,7 @@ settle_solved-requires c =
     let r = c.requires.room in
     record {
       counted_at = (omega (arith, r.whole), r.small, r.inside);
-      has_both = (r.room, omega (arith, r.asks, c.ask_or-left.auto.1.1.0, c.then_ask-solved.auto.1.1.0));
+      has_both = (r.room, omega (arith, r.asks, c.ask_or-left.auto.scratch, c.then_ask-solved.auto.scratch));
       counters_bound = omega (arith, r.few, c.ask_or-left.ensures.at_most.0, c.then_ask-solved.ensures.at_most.0);
     }
 

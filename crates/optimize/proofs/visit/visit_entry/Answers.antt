@@ -31,14 +31,6 @@ process-first-requires c =
       going = (ap refused_in c.put_walk.ensures);
     }
 
-pub shape_of-res-then-scratch-node-eq0 : goal.shape_of-res-then-scratch-node-eq0
-shape_of-res-then-scratch-node-eq0 c =
-    c.process-first.auto.1.0
-
-pub shape_of-scratch-then-scratch-node-eq0 : goal.shape_of-scratch-then-scratch-node-eq0
-shape_of-scratch-then-scratch-node-eq0 c =
-    c.process-first.auto.1.1.0
-
 pub returns-then-scratch-node-eq0 : goal.returns-then-scratch-node-eq0
 returns-then-scratch-node-eq0 c =
     let given = c.args.given.now in
@@ -60,14 +52,6 @@ visit-again-requires c =
       node_bound = c.requires.node_bound;
       going = (ap refused_in c.put_walk.ensures);
     }
-
-pub shape_of-res : goal.shape_of-res
-shape_of-res c =
-    c.visit-again.auto.1.0
-
-pub shape_of-scratch : goal.shape_of-scratch
-shape_of-scratch c =
-    c.visit-again.auto.1.1.0
 
 pub returns : goal.returns
 returns c =
