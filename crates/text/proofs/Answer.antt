@@ -3,22 +3,20 @@
 --     accepted-is        what is printed of a result's words, also with others after them
 --     accepted-room      a number takes 20 bytes at most, and one more on its line
 -- Assumes nothing.
-use Prim.Native.Nat.{ℕ, zero, suc, ◌+◌, ◌-◌, ◌*◌, ◌/◌, ◌%◌, ◌^◌, ◌<◌, ◌≤◌}
+use Prim.Native.Nat.{ℕ, zero, suc, ◌+◌, ◌*◌, ◌/◌, ◌%◌, ◌^◌, ◌<◌, ◌≤◌}
 use mathlib.Core.Path.{◌≡◌, refl, sym, ap, ap₂, ◌∙◌}
 use mathlib.Core.Bool.{Bool, true, false}
-use mathlib.Core.List.{List, [], ◌∷◌, ◌++◌, append_assoc, append-nil, flatten}
+use mathlib.Core.List.{List, [], ◌∷◌, ◌++◌, append_assoc, flatten}
 use native.Mathlib.Omega.{arith}
 use native.Mathlib.Nat.{zero-add}
 use lib.ListN.{length, get_or, take, drop, length-append, take-append-drop, get_or-append}
 use lib.Seq.{take_at, drop_at, get_or-drop}
 use lib.Dec.{ltb, lit<}
 use borrow.Author.Tests.{ltb-true, ltb-false}
-use Rattle.rules.specs.Walk.{Mark, fresh, kept, replaced, Question}
 use Rattle.rules.specs.Model.{Model}
 use Rattle.rules.specs.Whole.{Folded}
 use Rattle.rules.specs.Refusal.{done, refuse}
-use Rattle.rules.specs.Result.{node_words, const_words, mark_words, is_replaced, gather, question_words, listed, result_words}
-use Rattle.rules.specs.Lists.{sum}
+use Rattle.rules.specs.Result.{node_words, const_words, listed, result_words}
 use Rattle.rules.specs.Call.{Accepted, words_of}
 use Rattle.rules.specs.Text.{decimal, blanked, line, lines, accepted_word, printed}
 use Rattle.rules.proofs.Flat.{gather-size, marks-size}

@@ -1,5 +1,5 @@
 -- Printing into a lent buffer from a place on, and the result's words as the program prints them (docs/FORMAT.md, "The program's text").
---     Page, laid         a buffer with a place in it, and bytes printed there one after the other
+--     Page, laid          a buffer with a place in it, and bytes printed there one after the other
 --     sections_in         the sections that words hold, each with its count first
 --     accepted_text       what is printed of the words of a result (proofs/Printing: it is what the rules print)
 -- Assumes nothing.

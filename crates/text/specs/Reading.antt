@@ -1,6 +1,6 @@
 -- The reader's state and its answer, as the rules have them (rules, Reader).
 --     reader_of           a state and the numbers kept beside it, as the rules' Reader
---     fed_in, ended_in     the array after a chunk, and at the end of the bytes
+--     fed_in, ended_in    the array after a chunk, and at the end of the bytes
 --     answer_of           what is read at the end: the mode and the numbers after it, or a refusal
 -- Assumes nothing.
 use Rattle.std.specs.Prelude.{ℕ, ◌-◌, ◌<◌, ◌≤◌, List, [], ◌∷◌, get_or, take, drop}

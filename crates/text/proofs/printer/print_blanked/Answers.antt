@@ -1,11 +1,7 @@
 -- `print_blanked` meets its contract. The invariant: what is left, printed at the place, comes to what all comes to.
 -- Assumes nothing.
 use borrow.Author.Rules.{rules}
-use Prim.Native.Nat.{◌≤◌, ◌-◌}
-use mathlib.Core.Path.{◌≡◌, refl}
-use lib.ListN.{length, drop}
-use Rattle.rules.specs.Text.{blanked}
-use Rattle.text.specs.Printing.{page, laid}
+use mathlib.Core.Path.{refl}
 use Rattle.text.proofs.Printing.{blanked-next, blanked-all}
 use Rattle.text.proofs.printer.print_blanked.Goals as goal
 

@@ -1,6 +1,5 @@
 -- `print_byte` meets its contract: a byte at the place, and nothing at Full.
 -- Assumes nothing.
-use borrow.Author.Rules.{rules}
 use Rattle.text.proofs.Laid.{laid-byte}
 use Rattle.text.proofs.printer.print_byte.Goals as goal
 

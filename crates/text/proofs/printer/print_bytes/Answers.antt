@@ -1,10 +1,7 @@
 -- `print_bytes` meets its contract. The invariant: what is left, printed at the place, comes to what all comes to.
 -- Assumes nothing.
 use borrow.Author.Rules.{rules}
-use Prim.Native.Nat.{◌≤◌, ◌-◌}
-use mathlib.Core.Path.{◌≡◌, refl}
-use lib.ListN.{length, drop}
-use Rattle.text.specs.Printing.{page, laid}
+use mathlib.Core.Path.{refl}
 use Rattle.text.proofs.Printing.{bytes_next, bytes-all}
 use Rattle.text.proofs.printer.print_bytes.Goals as goal
 

@@ -1,11 +1,9 @@
 -- `print_bytes` meets its contract. The invariant: what is left, printed at the place, comes to what all comes to.
 -- Assumes nothing.
-use borrow.Author.Rules.{rules}
 use Prim.Native.Nat.{◌≤◌, ◌-◌}
-use mathlib.Core.Path.{◌≡◌, refl}
+use mathlib.Core.Path.{◌≡◌}
 use lib.ListN.{length, drop}
 use Rattle.text.specs.Printing.{page, laid}
-use Rattle.text.proofs.Printing.{bytes_next, bytes-all}
 use Rattle.text.proofs.printer.print_bytes.Given as goal
 
 abbrev pub invariant-loop-i : goal.invariant-loop-i

@@ -1,6 +1,5 @@
 -- `print_line` meets its contract: a line with nothing on it, or the first number, the others after blanks, and the line's end.
 -- Assumes nothing.
-use borrow.Author.Rules.{rules}
 use Rattle.text.proofs.Printing.{line-none, line-some}
 use Rattle.text.proofs.printer.print_line.Goals as goal
 

@@ -1,6 +1,5 @@
 -- `print_refused` meets its contract: the word, the three numbers after blanks, and the line's end.
 -- Assumes nothing.
-use borrow.Author.Rules.{rules}
 use mathlib.Core.List.{[], ◌∷◌}
 use native.Mathlib.Nat.{le_trans}
 use Rattle.rules.specs.Text.{blanked, refused_word}

@@ -1,11 +1,9 @@
 -- `print_sections` meets its contract. The invariant: the sections that are left, printed at the place, come to what all come to.
 -- Assumes nothing.
-use borrow.Author.Rules.{rules}
 use Prim.Native.Nat.{◌≤◌, ◌-◌}
-use mathlib.Core.Path.{◌≡◌, refl}
+use mathlib.Core.Path.{◌≡◌}
 use lib.ListN.{length, drop}
 use Rattle.rules.specs.Text.{lines}
-use Rattle.text.proofs.Printing.{width_positive, ends-within, sections-next, sections-all}
 use Rattle.text.specs.Printing.{page, laid, sections_in, result_widths}
 use Rattle.text.proofs.printer.print_sections.Given as goal
 

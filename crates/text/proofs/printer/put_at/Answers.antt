@@ -1,6 +1,5 @@
 -- `put_at` meets its contract: a byte within the buffer is written, one past its end is not.
 -- Assumes nothing.
-use borrow.Author.Rules.{rules}
 use mathlib.Core.Path.{sym}
 use Rattle.text.proofs.Laid.{put_full, put_next}
 use Rattle.text.proofs.printer.put_at.Goals as goal

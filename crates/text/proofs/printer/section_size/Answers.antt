@@ -1,6 +1,5 @@
 -- `section_size` meets its contract: the count is compared with how many entries there is room for, so that nothing wraps.
 -- Assumes nothing.
-use borrow.Author.Rules.{rules}
 use native.Mathlib.Omega.{arith}
 use Rattle.text.proofs.Printing.{section-none, section_short, section_within, section_whole}
 use Rattle.text.proofs.printer.section_size.Goals as goal

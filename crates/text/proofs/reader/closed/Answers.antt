@@ -1,6 +1,5 @@
 -- `closed` meets its contract, token by token.
 -- Assumes nothing.
-use borrow.Author.Rules.{rules}
 use mathlib.Core.Path.{sym}
 use Rattle.text.specs.Reading.{read_of}
 use Rattle.text.proofs.Reading.{kept_same, kept_junk}

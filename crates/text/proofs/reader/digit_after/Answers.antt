@@ -1,6 +1,5 @@
 -- `digit_after` meets its contract: the rules' three tests, the last one without a sum that wraps.
 -- Assumes nothing.
-use borrow.Author.Rules.{rules}
 use mathlib.Core.Path.{sym}
 use native.Mathlib.Omega.{arith}
 use Rattle.text.proofs.Reading.{digit_low, digit_high, digit_large, digit_next}

@@ -1,11 +1,6 @@
 -- `feed` meets its contract. The invariant: the state is what the bytes passed make of the state at first.
 -- Assumes nothing.
 use borrow.Author.Rules.{rules}
-use Prim.Native.Nat.{◌≤◌, ◌-◌}
-use mathlib.Core.Path.{◌≡◌}
-use lib.ListN.{length, take}
-use Rattle.rules.specs.Reader as rules
-use Rattle.text.specs.Reading.{reader_of, fed_in}
 use Rattle.text.proofs.Reading.{feed-none, feed-next, feed-all, fed_none, fed_next, fed_all}
 use Rattle.text.proofs.reader.feed.Goals as goal
 

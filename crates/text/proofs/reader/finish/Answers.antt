@@ -1,6 +1,5 @@
 -- `finish` meets its contract: the token that is being read ends, then the mode is taken off.
 -- Assumes nothing.
-use borrow.Author.Rules.{rules}
 use mathlib.Core.Path.{◌∙◌}
 use Rattle.text.proofs.Reading.{finished, ended}
 use Rattle.text.proofs.reader.finish.Goals as goal

@@ -1,6 +1,5 @@
 -- `grown` meets its contract, token by token.
 -- Assumes nothing.
-use borrow.Author.Rules.{rules}
 use Rattle.text.proofs.reader.grown.Goals as goal
 
 pub returns-in-Between : goal.returns-in-Between

@@ -1,6 +1,5 @@
 -- `put_junk` meets its contract: a token is judged, a refusal stays.
 -- Assumes nothing.
-use borrow.Author.Rules.{rules}
 use Rattle.text.proofs.reader.put_junk.Goals as goal
 
 pub returns-in-Whole : goal.returns-in-Whole

@@ -1,6 +1,5 @@
 -- `put_number` meets its contract: a number is put, a refusal stays.
 -- Assumes nothing.
-use borrow.Author.Rules.{rules}
 use Rattle.text.proofs.reader.put_number.Goals as goal
 
 pub returns-in-Whole : goal.returns-in-Whole

@@ -1,6 +1,5 @@
 -- `step` meets its contract: a byte ends the token, or belongs to it.
 -- Assumes nothing.
-use borrow.Author.Rules.{rules}
 use mathlib.Core.Path.{sym, ap, ◌∙◌}
 use Rattle.rules.specs.Reader as rules
 use Rattle.text.specs.Front.{on_front}

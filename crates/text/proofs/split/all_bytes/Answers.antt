@@ -1,10 +1,7 @@
 -- `all_bytes` meets its contract. The invariant: the values that are left are bytes if all are.
 -- Assumes nothing.
 use borrow.Author.Rules.{rules}
-use Prim.Native.Nat.{◌≤◌, ◌-◌}
-use mathlib.Core.Path.{◌≡◌, refl}
-use lib.ListN.{length, drop}
-use Rattle.rules.specs.Text.{all_bytes}
+use mathlib.Core.Path.{refl}
 use Rattle.text.proofs.Splitting.{bytes-over, bytes_next, bytes-all}
 use Rattle.text.proofs.split.all_bytes.Goals as goal
 

@@ -1,11 +1,9 @@
 -- `all_bytes` meets its contract. The invariant: the values that are left are bytes if all are.
 -- Assumes nothing.
-use borrow.Author.Rules.{rules}
 use Prim.Native.Nat.{◌≤◌, ◌-◌}
-use mathlib.Core.Path.{◌≡◌, refl}
+use mathlib.Core.Path.{◌≡◌}
 use lib.ListN.{length, drop}
 use Rattle.rules.specs.Text.{all_bytes}
-use Rattle.text.proofs.Splitting.{bytes-over, bytes_next, bytes-all}
 use Rattle.text.proofs.split.all_bytes.Given as goal
 
 abbrev pub invariant-loop-i : goal.invariant-loop-i

@@ -2,12 +2,8 @@
 -- Assumes nothing.
 use borrow.Author.Rules.{rules}
 use Prim.Native.Nat.{◌+◌, ◌≤◌, ◌<◌}
-use mathlib.Core.Path.{◌≡◌}
 use native.Mathlib.Omega.{arith}
 use lib.ListN.{length, get_or}
-use Rattle.rules.specs.Limits.{house}
-use Rattle.rules.proofs.NameWalk.{fault, fault_from}
-use Rattle.text.specs.Splitting.{cut_all}
 use Rattle.text.proofs.Splitting.{lengths_none, lengths_end, lengths_left, lengths_missing, lengths_over, lengths_short, lengths_next}
 use Rattle.text.proofs.split.judge_lengths.Goals as goal
 

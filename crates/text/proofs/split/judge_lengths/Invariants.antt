@@ -1,14 +1,11 @@
 -- `judge_lengths` meets its contract. The invariant: what is left, from the place on, has the fault that all have.
 -- Assumes nothing.
-use borrow.Author.Rules.{rules}
-use Prim.Native.Nat.{◌+◌, ◌≤◌, ◌<◌}
+use Prim.Native.Nat.{◌≤◌}
 use mathlib.Core.Path.{◌≡◌}
-use native.Mathlib.Omega.{arith}
-use lib.ListN.{length, get_or}
+use lib.ListN.{length}
 use Rattle.rules.specs.Limits.{house}
 use Rattle.rules.proofs.NameWalk.{fault, fault_from}
 use Rattle.text.specs.Splitting.{cut_all}
-use Rattle.text.proofs.Splitting.{lengths_none, lengths_end, lengths_left, lengths_missing, lengths_over, lengths_short, lengths_next}
 use Rattle.text.proofs.split.judge_lengths.Given as goal
 
 abbrev pub invariant-loop-left : goal.invariant-loop-left

@@ -1,6 +1,5 @@
 -- `names_after` meets its contract: the count, then the lengths, then the byte values are judged, so 2 is before 1.
 -- Assumes nothing.
-use borrow.Author.Rules.{rules}
 use mathlib.Core.Path.{sym, ap, ◌∙◌}
 use Prim.Native.Nat.{◌+◌}
 use lib.ListN.{length, take}

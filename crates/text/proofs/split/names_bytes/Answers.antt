@@ -35,8 +35,8 @@ returns-then-to-kept c =
     let rest = ap (λ l. bytes_in house l) (part-rest a.numbers.now a.from a.to c.if-to-kept.true) in
     let told = c.names_in.ensures in
     record {
-      out_after = (told.0.0 ∙ rest, lent_in c.names_in.result _ _ e told.0.1);
-      out_after_2 = told.1 ∙ ap (λ o. on_front o a.out.now) rest;
+      out_after = (told.out_after.0 ∙ rest, lent_in c.names_in.result _ _ e told.out_after.1);
+      out_after_2 = told.out_after_2 ∙ ap (λ o. on_front o a.out.now) rest;
     }
 
 pub returns : goal.returns
@@ -44,6 +44,6 @@ returns c =
     let e : length c.args.out.now ≡ 4097 = search rules in
     let told = c.names_in-2.ensures in
     record {
-      out_after = (told.0.0, lent_in c.names_in-2.result _ _ e told.0.1);
-      out_after_2 = told.1;
+      out_after = (told.out_after.0, lent_in c.names_in-2.result _ _ e told.out_after.1);
+      out_after_2 = told.out_after_2;
     }

@@ -1,6 +1,5 @@
 -- `names_in` meets its contract: the first number is the count.
 -- Assumes nothing.
-use borrow.Author.Rules.{rules}
 use mathlib.Core.Path.{sym, ap, ◌∙◌}
 use native.Mathlib.Omega.{arith}
 use Rattle.text.specs.Front.{on_front}
@@ -24,6 +23,6 @@ returns c =
     let after = c.names_after.ensures in
     let some = in_some c.args.numbers.now c.if-numbers-eq0.false in
     record {
-      out_after = (after.0.0 ∙ some, after.0.1);
-      out_after_2 = after.1 ∙ ap (λ o. on_front o c.args.out.now) some;
+      out_after = (after.out_after.0 ∙ some, after.out_after.1);
+      out_after_2 = after.out_after_2 ∙ ap (λ o. on_front o c.args.out.now) some;
     }

@@ -1,12 +1,11 @@
 -- `put_names` meets its contract. The invariant: the count and the values passed stand at the front.
 -- Assumes nothing.
 use borrow.Author.Rules.{rules}
-use Prim.Native.Nat.{◌≤◌, ◌-◌, ◌+◌, ◌%◌, ◌/◌}
+use Prim.Native.Nat.{◌%◌, ◌/◌}
 use mathlib.Core.Path.{◌∙◌}
 use mathlib.Core.Path.{◌≡◌}
 use native.Mathlib.Omega.{arith}
-use lib.ListN.{length, take, drop, length-set}
-use Rattle.text.specs.Splitting.{counted}
+use lib.ListN.{length, length-set}
 use Rattle.text.proofs.Splitting.{byte_at, count-put, value-put, rest_put, values-put}
 use Rattle.text.proofs.split.put_names.Goals as goal
 

@@ -1,13 +1,9 @@
 -- `put_names` meets its contract. The invariant: the count and the values passed stand at the front.
 -- Assumes nothing.
-use borrow.Author.Rules.{rules}
-use Prim.Native.Nat.{◌≤◌, ◌-◌, ◌+◌, ◌%◌, ◌/◌}
-use mathlib.Core.Path.{◌∙◌}
+use Prim.Native.Nat.{◌≤◌, ◌-◌, ◌+◌}
 use mathlib.Core.Path.{◌≡◌}
-use native.Mathlib.Omega.{arith}
-use lib.ListN.{length, take, drop, length-set}
+use lib.ListN.{length, take, drop}
 use Rattle.text.specs.Splitting.{counted}
-use Rattle.text.proofs.Splitting.{byte_at, count-put, value-put, rest_put, values-put}
 use Rattle.text.proofs.split.put_names.Given as goal
 
 abbrev pub invariant-loop-i : goal.invariant-loop-i

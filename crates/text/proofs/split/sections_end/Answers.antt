@@ -1,6 +1,5 @@
 -- `sections_end` meets its contract: the place after the six sections that tables cuts.
 -- Assumes nothing.
-use borrow.Author.Rules.{rules}
 use Prim.Native.Nat.{ℕ}
 use mathlib.Core.Path.{sym, ap, ◌∙◌}
 use mathlib.Core.List.{List}
