@@ -5,7 +5,7 @@ use crate::numbers::{GROUP, Grown, Written};
 use crate::{calls, cases, numbers};
 
 // What has been read: whole cases, and the part of a line.
-#[derive(Drop)]
+#[derive(Clone, Copy)]
 pub struct Replay {
     // Whether the line has begun, and whether the name of its case is read.
     pub begun: bool,

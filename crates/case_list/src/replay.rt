@@ -2,72 +2,73 @@
 use crate::list;
 use crate::list::Replay;
 use crate::numbers::GROUP;
-use libc::STDOUT_FILENO;
+use std::io::Read;
+use std::process::ExitCode;
+use std::rt::Files;
+use std::{fs, io};
 
 // What one read leaves, and whether there may be more.
 #[derive(Drop)]
 enum Turn {
     More(Replay),
     End(Replay),
-    Failed,
 }
 
-fn read_some(run: Replay, file: i32, numbers: &mut [u64], steps: &mut [u64; GROUP]) -> Turn {
-    let mut buffer = io::large_buffer();
-    let got = libc::read(file, &mut buffer);
-    if got < 0 {
-        return Turn::Failed;
+fn read_some<R: Read>(
+    run: Replay,
+    file: &mut R,
+    numbers: &mut [u64],
+    steps: &mut [u64; GROUP],
+) -> io::Result<Turn> {
+    let mut buffer = [0u8; 65536];
+    let count = file.read(&mut buffer)?;
+    if count == 0 {
+        return Ok(Turn::End(run));
     }
-    if got == 0 {
-        return Turn::End(run);
-    }
-    let n = io::count(got, &buffer);
-    Turn::More(list::feed_all(run, &buffer[..n], numbers, steps))
+    Ok(Turn::More(list::feed_all(run, &buffer[..count], numbers, steps)))
 }
 
 // A list is far shorter than this many reads.
 const TURNS: u64 = 65536;
 
-fn read_list(file: i32, numbers: &mut [u64]) -> Turn {
+fn read_list<R: Read>(file: &mut R, numbers: &mut [u64]) -> io::Result<Replay> {
     let mut steps = [0u64; GROUP];
     let mut run = Replay::new();
-    let mut turns = TURNS;
-    while turns > 0 {
-        turns -= 1;
-        match read_some(run, file, numbers, &mut steps) {
+    for _ in 0..TURNS {
+        match read_some(run, file, numbers, &mut steps)? {
             Turn::More(next) => run = next,
-            Turn::End(last) => return Turn::End(last),
-            Turn::Failed => return Turn::Failed,
+            Turn::End(last) => return Ok(last),
         }
     }
-    Turn::Failed
+    Err(io::Error::other("too many reads"))
 }
 
-fn report(run: Replay) {
+fn open_and_read(rt: &impl Files, name: &str, numbers: &mut [u64]) -> io::Result<Replay> {
+    let mut file = fs::open(rt, name)?;
+    read_list(&mut file, numbers)
+}
+
+fn report(rt: &impl Print, run: Replay) -> io::Result<()> {
     if run.malformed || run.begun {
-        io::write_all(STDOUT_FILENO, b"malformed list\n");
-        return;
+        return println!(rt; "malformed list");
     }
-    io::print_decimal(STDOUT_FILENO, run.cases);
-    io::write_all(STDOUT_FILENO, b" cases, ");
-    io::print_decimal(STDOUT_FILENO, run.wrong);
-    io::write_all(STDOUT_FILENO, b" wrong\n");
+    println!(rt; "{} cases, {} wrong", run.cases, run.wrong)
+}
+
+// Says on standard error what failed and why.
+fn fail(rt: &impl Eprint, what: &str, why: io::Error) -> ExitCode {
+    let _ = eprintln!(rt; "{what}: {why}");
+    ExitCode::FAILURE
 }
 
 // The numbers have room for the longest line of the list.
-pub fn replay(name: &[u8], numbers: &mut [u64]) {
-    let file = os::open_read(name);
-    if file < 0 {
-        os::fail(name);
-        return;
-    }
-    let last = read_list(file, numbers);
-    libc::close(file);
-    match last {
-        Turn::End(run) => report(run),
-        Turn::More(run) => report(run),
-        Turn::Failed => {
-            os::fail(name);
-        }
+pub fn replay<R: Files + Print + Eprint>(rt: &R, name: &str, numbers: &mut [u64]) -> ExitCode {
+    let run = match open_and_read(rt, name, numbers) {
+        Ok(run) => run,
+        Err(why) => return fail(rt, name, why),
+    };
+    match report(rt, run) {
+        Ok(()) => ExitCode::SUCCESS,
+        Err(why) => fail(rt, "standard output", why),
     }
 }

@@ -1,71 +1,69 @@
 // Replays the kept operator cases, data/operators.list, and prints how many there are and how many answers differ.
+#![tactic(auto)]
+
 mod cases; // cases.rt: the lines of the list, and the operator of each
 
 use cases::Replay;
-use libc::STDOUT_FILENO;
+use std::io::Read;
+use std::process::ExitCode;
+use std::rt::Files;
+use std::{fs, io};
 
 // What one read leaves, and whether there may be more.
 #[derive(Drop)]
 enum Turn {
     More(Replay),
     End(Replay),
-    Failed,
 }
 
-fn read_some(run: Replay, file: i32) -> Turn {
-    let mut buffer = io::large_buffer();
-    let got = libc::read(file, &mut buffer);
-    if got < 0 {
-        return Turn::Failed;
+fn read_some<R: Read>(run: Replay, file: &mut R) -> io::Result<Turn> {
+    let mut buffer = [0u8; 65536];
+    let count = file.read(&mut buffer)?;
+    if count == 0 {
+        return Ok(Turn::End(run));
     }
-    if got == 0 {
-        return Turn::End(run);
-    }
-    let n = io::count(got, &buffer);
-    Turn::More(cases::feed_all(run, &buffer[..n]))
+    Ok(Turn::More(cases::feed_all(run, &buffer[..count])))
 }
 
 // The list is far shorter than this many reads.
 const TURNS: u64 = 65536;
 
-fn read_list(file: i32) -> Turn {
+fn read_list<R: Read>(file: &mut R) -> io::Result<Replay> {
     let mut run = Replay::new();
-    let mut turns = TURNS;
-    while turns > 0 {
-        turns -= 1;
-        match read_some(run, file) {
+    for _ in 0..TURNS {
+        match read_some(run, file)? {
             Turn::More(next) => run = next,
-            Turn::End(last) => return Turn::End(last),
-            Turn::Failed => return Turn::Failed,
+            Turn::End(last) => return Ok(last),
         }
     }
-    Turn::Failed
+    Err(io::Error::other("too many reads"))
 }
 
-fn report(run: Replay) {
+fn open_and_read(rt: &impl Files) -> io::Result<Replay> {
+    let mut file = fs::open(rt, "operators.list")?;
+    read_list(&mut file)
+}
+
+fn report(rt: &impl Print, run: Replay) -> io::Result<()> {
     if run.malformed || run.open || run.filled != 0 {
-        io::write_all(STDOUT_FILENO, b"malformed list\n");
-        return;
+        return println!(rt; "malformed list");
     }
-    io::print_decimal(STDOUT_FILENO, run.cases);
-    io::write_all(STDOUT_FILENO, b" cases, ");
-    io::print_decimal(STDOUT_FILENO, run.wrong);
-    io::write_all(STDOUT_FILENO, b" wrong\n");
+    println!(rt; "{} cases, {} wrong", run.cases, run.wrong)
 }
 
-fn main() {
-    let file = os::open_read(b"operators.list");
-    if file < 0 {
-        os::fail(b"operators.list");
-        return;
-    }
-    let last = read_list(file);
-    libc::close(file);
-    match last {
-        Turn::End(run) => report(run),
-        Turn::More(run) => report(run),
-        Turn::Failed => {
-            os::fail(b"operators.list");
-        }
+// Says on standard error what failed and why.
+fn fail(rt: &impl Eprint, what: &str, why: io::Error) -> ExitCode {
+    let _ = eprintln!(rt; "{what}: {why}");
+    ExitCode::FAILURE
+}
+
+fn main(rt: HostRuntime) -> ExitCode {
+    let run = match open_and_read(&rt) {
+        Ok(run) => run,
+        Err(why) => return fail(&rt, "operators.list", why),
+    };
+    match report(&rt, run) {
+        Ok(()) => ExitCode::SUCCESS,
+        Err(why) => fail(&rt, "standard output", why),
     }
 }

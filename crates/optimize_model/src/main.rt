@@ -1,5 +1,9 @@
 // The program: a model's text on standard input, the answer's text on standard output. Here bytes are moved; all else is in the libraries.
-use libc::{STDIN_FILENO, STDOUT_FILENO};
+#![tactic(auto)]
+
+use std::io;
+use std::io::Read;
+use std::process::ExitCode;
 use text::reader::{Reader, feed, finish, start};
 use text_answer::answer::{ROOM, answer};
 
@@ -8,60 +12,62 @@ use text_answer::answer::{ROOM, answer};
 enum Turn {
     More(Reader),
     End(Reader),
-    Failed,
 }
 
-fn read_some(reader: Reader, numbers: &mut [u64; 4096]) -> Turn {
-    let mut buffer = io::large_buffer();
-    let got = libc::read(STDIN_FILENO, &mut buffer);
-    if got < 0 {
-        return Turn::Failed;
+fn read_some<R: Read>(
+    reader: Reader,
+    input: &mut R,
+    numbers: &mut [u64; 4096],
+) -> io::Result<Turn> {
+    let mut buffer = [0u8; 65536];
+    let count = input.read(&mut buffer)?;
+    if count == 0 {
+        return Ok(Turn::End(reader));
     }
-    if got == 0 {
-        return Turn::End(reader);
-    }
-    let n = io::count(got, &buffer);
-    Turn::More(feed(reader, &buffer[..n], numbers))
+    Ok(Turn::More(feed(reader, &buffer[..count], numbers)))
 }
 
 // Reads to the input's end. No input has as many parts as turns are counted.
-fn read_all(numbers: &mut [u64; 4096]) -> Turn {
+fn read_all<R: Read>(input: &mut R, numbers: &mut [u64; 4096]) -> io::Result<Reader> {
     let mut reader = start();
-    let mut turns = u64::MAX;
-    while turns > 0 {
-        turns -= 1;
-        match read_some(reader, numbers) {
+    for _ in 0..u64::MAX {
+        match read_some(reader, input, numbers)? {
             Turn::More(next) => reader = next,
-            Turn::End(last) => return Turn::End(last),
-            Turn::Failed => return Turn::Failed,
+            Turn::End(last) => return Ok(last),
         }
     }
-    Turn::Failed
+    Err(io::Error::other("too many reads"))
 }
 
 // Writes the front of the buffer.
-fn write_front(out: &[u8; ROOM], size: usize) -> bool {
-    let bytes: &[u8] = out;
-    if size > bytes.len() {
-        return false;
+fn write_front(rt: &impl Print, out: &[u8; ROOM], size: usize) -> io::Result<()> {
+    if size > out.len() {
+        return Err(io::Error::other("no whole answer"));
     }
-    io::write_all(STDOUT_FILENO, &bytes[0..size])
+    rt.write_all(&out[..size])
 }
 
-fn print_answer(reader: Reader, numbers: &mut [u64; 4096]) {
+fn print_answer(rt: &impl Print, reader: Reader, numbers: &mut [u64; 4096]) -> io::Result<()> {
     let mut out = [0u8; ROOM];
     let read = finish(reader, numbers);
     let size = answer(read, numbers, &mut out);
-    if !write_front(&out, size) {
-        os::fail(b"standard output");
-    }
+    write_front(rt, &out, size)
 }
 
-fn main() {
+// Says on standard error what failed and why.
+fn fail(rt: &impl Eprint, what: &str, why: io::Error) -> ExitCode {
+    let _ = eprintln!(rt; "{what}: {why}");
+    ExitCode::FAILURE
+}
+
+fn main(rt: HostRuntime) -> ExitCode {
     let mut numbers = [0u64; 4096];
-    match read_all(&mut numbers) {
-        Turn::End(reader) => print_answer(reader, &mut numbers),
-        Turn::More(_) => os::fail(b"standard input"),
-        Turn::Failed => os::fail(b"standard input"),
+    let reader = match read_all(&mut rt.stdin(), &mut numbers) {
+        Ok(reader) => reader,
+        Err(why) => return fail(&rt, "standard input", why),
+    };
+    match print_answer(&rt, reader, &mut numbers) {
+        Ok(()) => ExitCode::SUCCESS,
+        Err(why) => fail(&rt, "standard output", why),
     }
 }
