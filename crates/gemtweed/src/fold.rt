@@ -40,8 +40,7 @@ fn answer_of(outcome: Optimized) -> GemtweedAnswer
 }
 
 // The reference: inputs and replies both count.
-#[unsafe(no_mangle)]
-pub extern "C" fn gemtweed_optimize_model_impl(
+pub fn gemtweed_optimize_model_impl(
     mode: u64,
     words: &[u64],
     names: &[u8],
@@ -56,8 +55,7 @@ pub extern "C" fn gemtweed_optimize_model_impl(
 }
 
 // The inputs do not count.
-#[unsafe(no_mangle)]
-pub extern "C" fn gemtweed_optimize_model_with_solver(
+pub fn gemtweed_optimize_model_with_solver(
     mode: u64,
     words: &[u64],
     names: &[u8],
@@ -72,8 +70,7 @@ pub extern "C" fn gemtweed_optimize_model_with_solver(
 }
 
 // Mode 0, and the replies do not count.
-#[unsafe(no_mangle)]
-pub extern "C" fn gemtweed_optimize_model_with_input(
+pub fn gemtweed_optimize_model_with_input(
     words: &[u64],
     names: &[u8],
     res: &mut [u64],

@@ -12,14 +12,13 @@ fn lay(text: &[u8], out: &mut [u8]) -> u64
     ensures out_after { out.new ≡ laid_in text.now out.old }
 {
     if text.len() <= out.len() {
-        bytes::copy(text, out);
+        out[..text.len()].copy_from_slice(text);
     }
     text.len() as u64
 }
 
 // The label's length. The label is copied to the front of `out`, if it has room for all of it; else `out` stays as it is.
-#[unsafe(no_mangle)]
-pub extern "C" fn gemtweed_label<'a>(
+pub fn gemtweed_label<'a>(
     words: &[u64],
     names: &'a [u8],
     substitute: &'a [u8],

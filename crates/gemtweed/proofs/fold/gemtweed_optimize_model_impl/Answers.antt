@@ -1,0 +1,14 @@
+-- The answer in words is that of `optimize_model_impl`, and so is every word of both buffers.
+-- Assumes nothing.
+use borrow.Author.Rules.{rules}
+use mathlib.Core.Path.{◌∙◌}
+use Rattle.gemtweed.proofs.fold.gemtweed_optimize_model_impl.Goals as goal
+
+pub returns : goal.returns
+returns c =
+    let left = c.optimize_model_impl.ensures in
+    record {
+      result_value = c.answer_of.ensures ∙ left.result_value;
+      res_after = left.res_after;
+      scratch_after = left.scratch_after;
+    }
