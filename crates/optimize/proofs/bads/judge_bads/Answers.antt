@@ -39,7 +39,7 @@ retain_in-retained-requires c =
       counted_at = (omega (arith, laid.whole), laid.small, inside);
       has_room = (omega (arith, laid.room, c.visit_in-visited.auto.res), omega (arith, c.requires.at_le_list.0, c.requires.at_le_list.1, c.loop-i.invariant.3, c.visit_in-visited.auto.scratch));
       may_ask = λ w a e. let after = laid-visited _ _ _ _ _ _ _ _ _ _ _ w _ a _ laid inside visits e c.visit_in-visited.auto.res (length-take-le c.args.at _ (omega (arith, c.requires.at_le_list.0, c.requires.at_le_list.1, c.loop-i.invariant.3, c.visit_in-visited.auto.scratch)) ∙ sym (length-take-le c.args.at _ (omega (arith, c.requires.at_le_list.0, c.requires.at_le_list.1, c.loop-i.invariant.3)))) in
-            (omega (arith, after.few), omega (arith, spare-visited _ _ _ _ _ _ _ _ _ _ _ w _ a 1 _ laid inside visits e (length-take-le c.args.at _ (omega (arith, c.requires.at_le_list.0, c.requires.at_le_list.1, c.loop-i.invariant.3, c.visit_in-visited.auto.scratch)) ∙ sym (length-take-le c.args.at _ (omega (arith, c.requires.at_le_list.0, c.requires.at_le_list.1, c.loop-i.invariant.3)))) (spare-less 0 c.args.given.now (take c.args.at c.loop-i.scratch) c.loop-i.walk (length c.args.bads.now - c.loop-i.i + 0) 1 (omega arith) (c.loop-i.invariant.5 0 (spare-less 0 c.args.given.now (take c.args.at c.args.scratch.now) c.args.walk (length c.args.bads.now) (length c.args.bads.now + 0) (omega arith) c.requires.all.1)))));
+          (omega (arith, after.few), omega (arith, spare-visited _ _ _ _ _ _ _ _ _ _ _ w _ a 1 _ laid inside visits e (length-take-le c.args.at _ (omega (arith, c.requires.at_le_list.0, c.requires.at_le_list.1, c.loop-i.invariant.3, c.visit_in-visited.auto.scratch)) ∙ sym (length-take-le c.args.at _ (omega (arith, c.requires.at_le_list.0, c.requires.at_le_list.1, c.loop-i.invariant.3)))) (spare-less 0 c.args.given.now (take c.args.at c.loop-i.scratch) c.loop-i.walk (length c.args.bads.now - c.loop-i.i + 0) 1 (omega arith) (c.loop-i.invariant.5 0 (spare-less 0 c.args.given.now (take c.args.at c.args.scratch.now) c.args.walk (length c.args.bads.now) (length c.args.bads.now + 0) (omega arith) c.requires.all.1)))));
     }
 
 pub put_if-kept-requires : goal.put_if-kept-requires

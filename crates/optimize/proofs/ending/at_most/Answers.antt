@@ -13,4 +13,4 @@ returns-then-count-most c =
     }
 
 pub returns : goal.returns
-returns c = record { upper_bound = omega arith; by_index = λ l e. drop_of_length-le l {i = c.args.most} (omega arith) ∙ sym (drop_of_length-le l {i = c.args.count} (omega arith)); }
+returns c = record { upper_bound = omega arith; by_index = λ l e. drop_of_length-le l {i = c.args.most} (omega arith) ∙ sym (drop_of_length-le l {i = c.args.count} (omega arith)) }

@@ -17,11 +17,11 @@ pub loop-value-smaller : goal.loop-value-smaller
 loop-value-smaller c =
     elim c.match-look_at.branch [
       | in-Settled w ↦
-        let q = (search_settled _ _ _ _ _ _ _ _ _ c.loop-value.invariant _ c.look_at.ensures _ _ _ w.in-Settled.is w.at-is w.passed-is).within in
-        omega arith
+          let q = (search_settled _ _ _ _ _ _ _ _ _ c.loop-value.invariant _ c.look_at.ensures _ _ _ w.in-Settled.is w.at-is w.passed-is).within in
+          omega arith
       | in-Unsettled w ↦
-        let q = (search_unsettled _ _ _ _ _ _ _ _ _ c.loop-value.invariant _ c.look_at.ensures _ _ _ w.in-Unsettled.is w.at-is w.passed-is).within in
-        omega arith
+          let q = (search_unsettled _ _ _ _ _ _ _ _ _ c.loop-value.invariant _ c.look_at.ensures _ _ _ w.in-Unsettled.is w.at-is w.passed-is).within in
+          omega arith
     ]
 
 pub loop-value-preserved : goal.loop-value-preserved

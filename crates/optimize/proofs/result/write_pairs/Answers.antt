@@ -15,13 +15,12 @@ pub loop-i-init : goal.loop-i-init
 loop-i-init c = (omega arith, omega arith, refl, wrote_first c.args.res.now c.args.at (λ (k : ℕ). mark_words k (mark_of c.args.n c.args.scratch.now k)) (omega arith))
 
 pub loop-i-preserved : goal.loop-i-preserved
-loop-i-preserved c =
-    (
-      omega arith,
-      omega (arith, c.write_pair-place.ensures.upper_bound),
-      c.write_pair-place.auto.res ∙ c.loop-i.invariant.2,
-      wrote_more c.args.res.now c.loop-i.res _ c.args.at c.loop-i.place c.write_pair-place.result c.loop-i.i (λ (k : ℕ). mark_words k (mark_of c.args.n c.args.scratch.now k)) c.loop-i.invariant.3 c.write_pair-place.ensures.writes,
-    )
+loop-i-preserved c = (
+  omega arith,
+  omega (arith, c.write_pair-place.ensures.upper_bound),
+  c.write_pair-place.auto.res ∙ c.loop-i.invariant.2,
+  wrote_more c.args.res.now c.loop-i.res _ c.args.at c.loop-i.place c.write_pair-place.result c.loop-i.i (λ (k : ℕ). mark_words k (mark_of c.args.n c.args.scratch.now k)) c.loop-i.invariant.3 c.write_pair-place.ensures.writes,
+)
 
 pub returns : goal.returns
 returns c =

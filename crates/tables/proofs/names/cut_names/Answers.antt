@@ -47,7 +47,6 @@ loop-left-preserved c = (
   inside (goal.at.loop-left-preserved c).In-Name,
   sym (judged-name _ _ _ _ _ c.loop-left-test.true _ _ (sym c.read_name.ensures ∙ ap read_of c.in-Name.is))
       ∙ c.loop-left.invariant.1,
-
 )
 
 pub returns-then-at-names : goal.returns-then-at-names

@@ -36,7 +36,6 @@ loop-i-preserved c = (
   omega arith,
   sym (prefix_agrees _ _ _ c.loop-i-test.true c.if-name-i.false c.if-name-i-2.false)
       ∙ c.loop-i.invariant.1,
-
 )
 
 pub returns : goal.returns
