@@ -1,8 +1,8 @@
 -- Laws of SMT-LIB's bit vectors, over the width: a vector's number, a number's vector, and the operators that go bit by bit.
 -- Assumes nothing.
-use Rattle.std.proofs.Common.{◌≡◌, ℕ, zero, suc, ◌+◌, ◌-◌, ◌*◌, ◌/◌, ◌%◌, ◌^◌, ◌<◌, ◌≤◌, Bool, true, false, cond, eqb, ltb, sym, refl, ap, ◌∙◌, subst, ap₂, mod-lt, mod-eq_of_lt, div-le_self, arith, pow_pos, ltb-false, ltb-true, le-ltb, lt-ltb}
+use Rattle.std.proofs.Common.{◌≡◌, ℕ, zero, suc, ◌+◌, ◌-◌, ◌*◌, ◌/◌, ◌%◌, ◌^◌, ◌<◌, ◌≤◌, Bool, true, false, cond, eqb, ltb, sym, refl, ap, ◌∙◌, ap₂, mod-lt, mod-eq_of_lt, div-le_self, arith, ltb-false, ltb-true, le-ltb, lt-ltb}
 use native.Mathlib.Nat.{mod-one, mod-le, add-mod-mod, div-eq_of_lt, div-eq_of_lt-le}
-use lib.Bits.{bit_and, bit_or, and_shr, or_shr, and_mod, or_mod, and_lt, or_lt}
+use lib.Bits.{bit_and, bit_or, and_shr, or_shr, and_mod, or_mod}
 use lib.Pow.{mod-pow-add, shr_le}
 use Rattle.btor.specs.Standard.{BitVector, bv2nat, nat2bv, bvnot, bvand, bvor, bvneg, bvadd, bvsub, bvmul, bvudiv, bvurem, bvshl, bvlshr, zero_extend, Equal}
 

@@ -1,8 +1,8 @@
 -- Facts about the sorts, each proved once for all ten: by a test that is computed over the list of sorts, or over the width.
 -- Assumes nothing.
-use Rattle.std.proofs.Common.{◌≡◌, ℕ, ◌+◌, ◌-◌, ◌*◌, ◌/◌, ◌^◌, ◌<◌, ◌≤◌, Bool, true, false, ◌&&◌, T, leb, List, [], ◌∷◌, sym, refl, ap, ◌∙◌, arith, leb→le}
+use Rattle.std.proofs.Common.{◌≡◌, ℕ, ◌+◌, ◌-◌, ◌/◌, ◌^◌, ◌≤◌, Bool, true, false, ◌&&◌, T, leb, List, [], ◌∷◌, sym, refl, ap, ◌∙◌, arith, leb→le}
 use lib.Pow.{ones_split, ones_lt, high}
-use Rattle.btor.specs.Sorts.{sorts, code_of, width_of, ones_of, sort_of, bits_of, width, ones}
+use Rattle.btor.specs.Sorts.{sorts, code_of, width_of, sort_of, bits_of, width}
 use Rattle.btor.specs.declared.node_type.NodeType.{NodeType}
 use Rattle.btor.specs.declared.node_type.NodeType.TheVariants.{Bit, Word, Memory, Input1Byte, Input2Byte, Input3Byte, Input4Byte, Input5Byte, Input6Byte, Input7Byte}
 use Rattle.btor.specs.declared.node_type.CodedSort.{CodedSort}

@@ -2,7 +2,7 @@
 --     disagrees      the operands at which the Rust's operator and the standard's differ
 --     HouseAgrees    in the standard's reading every operator of the house is the standard's, on all operands
 -- Assumes nothing.
-use Rattle.std.specs.Prelude.{◌≡◌, ℕ, ◌+◌, ◌-◌, ◌^◌, ◌<◌, ◌≤◌, Bool, true, false, not, ◌&&◌, ◌||◌, ◌==◌}
+use Rattle.std.specs.Prelude.{◌≡◌, ℕ, ◌+◌, ◌-◌, ◌^◌, ◌<◌, Bool, true, false, not, ◌&&◌, ◌||◌, ◌==◌}
 use Rattle.btor.specs.Operators.{Op, Add, Sub, Mul, Divu, Div, Rem, Sll, Srl, rust, standard, compute, both, either, complement, less, same, bit, extend, choose, Memory, read, write, overflow}
 use Rattle.btor.specs.Standard.{bit_vector_op, on_numbers, on_number, bv2nat, nat2bv, bvand, bvor, bvnot, bvult, zero_extend, Equal, ite, Truth, test_bit, IsTrue, ArraysEx}
 

@@ -27,7 +27,6 @@ use Rattle.optimize.specs.declared.fold.Constant.{Constant}
 use Rattle.optimize.specs.declared.fold.Rule.{Rule}
 use Rattle.optimize.specs.declared.fold.Single.{Single}
 use Rattle.optimize.specs.declared.form.Pair.{Pair}
-use Rattle.optimize.specs.declared.memory.Found.{Found}
 use Rattle.optimize.specs.declared.memory.Search.{Search}
 use Rattle.optimize.specs.Bounds.{count_of}
 use Rattle.rules.specs.Sections.{word_of}

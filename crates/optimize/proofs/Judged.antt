@@ -2,22 +2,20 @@
 -- By taking the stages apart with the first-refusal bind.
 -- Assumes nothing.
 use Prim.Native.Nat.{ℕ, ◌≤◌}
-use mathlib.Core.Path.{◌≡◌, refl, sym, ap, ◌∙◌, subst}
+use mathlib.Core.Path.{◌≡◌, refl, sym, subst}
 use mathlib.Core.Bool.{Bool, true, false}
 use mathlib.Core.Option.{Option, none, some}
-use mathlib.Core.List.{List}
 use native.Mathlib.Omega.{arith}
 use lib.Dec.{ltb}
 use lib.ListN.{length}
-use borrow.Author.Tests.{ltb-false}
-use Rattle.rules.specs.Refusal.{Refusal, Out, refused, done, refuse, ◌>>=◌, unless_refused}
+use Rattle.rules.specs.Refusal.{Refusal, done, refuse, unless_refused}
 use Rattle.rules.specs.Model.{Mode}
 use Rattle.rules.specs.Limits.{Limits, mode_of, highest_mode}
 use Rattle.rules.specs.Check.{check}
-use Rattle.rules.specs.Sections.{Sections, cut}
+use Rattle.rules.specs.Sections.{cut}
 use Rattle.rules.specs.Names.{names_of}
 use Rattle.rules.specs.Call.{Call, Judged, judge_mode, judge_room, need_of, model_from, judged}
-use Rattle.rules.proofs.Sections.{through, same-done, never}
+use Rattle.rules.proofs.Sections.{through, same-done}
 use Rattle.rules.proofs.Call.{room-done}
 
 -- what a judged call has passed

@@ -8,7 +8,7 @@ use native.Mathlib.Omega.{arith}
 use lib.ListN.{length, get_or}
 use lib.Dec.{eqb, leb}
 use borrow.Author.Tests.{eq-eqb, ne_eqb}
-use Rattle.rules.specs.Refusal.{done, refuse, ◌>>=◌}
+use Rattle.rules.specs.Refusal.{done, refuse}
 use Rattle.rules.specs.Model.{Model, Mode}
 use Rattle.rules.specs.Walk.{St, Question, Held, add_asked}
 use Rattle.rules.specs.Questions.{ask, most, first_reply, other_replies, question}

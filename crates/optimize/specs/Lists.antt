@@ -2,7 +2,7 @@
 --     Table       a legal table, whole in its words            entries_of   a list in a buffer
 --     WalksTo     what a list of visits leaves                  LaidAfter   the buffers are laid for what comes next
 -- Assumes nothing.
-use Rattle.std.specs.Prelude.{ℕ, ◌+◌, ◌≤◌, ◌≡◌, List, ◌++◌, length, take, drop}
+use Rattle.std.specs.Prelude.{ℕ, ◌≤◌, ◌≡◌, List, ◌++◌, length, take, drop}
 use Rattle.rules.specs.Model.{Mode}
 use Rattle.rules.specs.Refusal.{Out, refused, done}
 use Rattle.rules.specs.Legal.{AllLegal}

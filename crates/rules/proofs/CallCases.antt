@@ -14,7 +14,7 @@ use Rattle.rules.specs.Whole.{run, fold, fold_bads, judge_bads, judge_sequential
 use Rattle.rules.specs.Check.{check, check_nodes, check_sequentials, check_bads}
 use Rattle.rules.specs.Result.{result_words, gather, question_words}
 use Rattle.rules.specs.Lists.{sum}
-use Rattle.rules.specs.Refusal.{done, refused, refuse}
+use Rattle.rules.specs.Refusal.{done, refuse}
 use Rattle.rules.specs.Questions.{ask, ask_or}
 use Rattle.rules.specs.Visit.{visit, process, settle, finish, finish_stay, unary, binary, visit1, visit2, visit3, ite_on, take_input, forward}
 use Rattle.rules.specs.Memory.{find, look_at}

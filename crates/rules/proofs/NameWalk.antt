@@ -4,7 +4,7 @@
 --     missing_at, over-at, short-at, whole-at, end_at   one step of the walk, and its end
 --     names-fault        the refusal of the names bytes is that of the walk from byte 2
 -- Assumes nothing.
-use Prim.Native.Nat.{ℕ, zero, suc, ◌+◌, ◌*◌, ◌<◌, ◌≤◌}
+use Prim.Native.Nat.{ℕ, suc, ◌+◌, ◌*◌, ◌<◌, ◌≤◌}
 use mathlib.Core.Path.{◌≡◌, refl, sym, ap, ◌∙◌}
 use mathlib.Core.Option.{Option, none, some}
 use mathlib.Core.List.{List, [], ◌∷◌}
@@ -12,7 +12,7 @@ use native.Mathlib.Omega.{arith}
 use native.Mathlib.Numerals.{add-one}
 use lib.ListN.{length, get_or, take, drop, length-drop, drop_of_length-le}
 use lib.Seq.{drop-cons, drop-drop}
-use Rattle.rules.specs.Refusal.{Refusal, Out, refused, done, refuse, ◌>>=◌}
+use Rattle.rules.specs.Refusal.{Refusal, Out, refused, done, ◌>>=◌}
 use Rattle.rules.specs.Limits.{Limits}
 use Rattle.rules.specs.Sections.{none_left}
 use Rattle.rules.specs.Names.{cut_names, names_of}

@@ -14,8 +14,7 @@ use Rattle.rules.specs.Legal as legal
 use Rattle.rules.specs.Laws.{ReplacementSort, MadeReplaces, MadeFits, RowKeeps, GivenPass, RowsPass}
 use Rattle.rules.specs.Sections.{Sections}
 use Rattle.rules.specs.Names.{dump}
-use Rattle.rules.specs.Limits.{Limits}
-use Rattle.rules.specs.Call.{Entry, impl, with_solver, with_input, Call, Accepted, brought, model_from}
+use Rattle.rules.specs.Call.{Entry, impl, with_solver, with_input, brought, model_from}
 use Rattle.rules.specs.OwnSort.{OwnSortsOfCall}
 use Rattle.rules.proofs.Check.{accepted}
 use Rattle.rules.proofs.Sections.{same-done}

@@ -21,7 +21,7 @@ use Rattle.rules.specs.Limits.{Limits}
 use Rattle.rules.specs.Sections.{Sections, cut_six, cut, encode}
 use Rattle.rules.specs.Names.{counted_names, names_of, name_bytes}
 use Rattle.rules.specs.Call.{Call, impl, judge_mode, judge_cut, outcome}
-use Rattle.rules.specs.Text.{most_numbers, program_room, is_digit, all_digits, decimal_from, number_of, judge_token, numbers_from, numbers, all_name_bytes, judge_bytes, names_in_numbers, after_numbers, decimal_of, decimal}
+use Rattle.rules.specs.Text.{most_numbers, program_room, is_digit, all_digits, decimal_from, number_of, judge_token, numbers_from, all_name_bytes, judge_bytes, names_in_numbers, after_numbers, decimal_of, decimal}
 use Rattle.btor.proofs.Agreement.{cases}
 use Rattle.rules.proofs.Sections.{bind_done, never, same-done, through, cut-encode, encode-cut_six}
 use Rattle.rules.proofs.Names.{names_back, counted_names_done}

@@ -19,7 +19,7 @@ use Rattle.rules.specs.Walk.{St, Mark, fresh, kept, replaced, start}
 use Rattle.rules.specs.Fold.{const_of, is_const}
 use Rattle.rules.specs.Questions.{ask}
 use Rattle.rules.specs.Visit.{Ways, visit_top}
-use Rattle.rules.specs.Whole.{ways_of, trivial, drop_next, judge_sequentials, Judgement, stay, visit_all, by_reply, judge_bad, judge_bads, Folded, bads, last_question, fold_bads, fold}
+use Rattle.rules.specs.Whole.{ways_of, trivial, drop_next, judge_sequentials, Judgement, visit_all, by_reply, judge_bad, judge_bads, Folded, bads, last_question, fold_bads, fold}
 use Rattle.rules.specs.Tally.{if_replaced}
 use Rattle.rules.specs.Room.{unpaid}
 use Rattle.rules.specs.Fine.{Stands, Took, fee, Fine}

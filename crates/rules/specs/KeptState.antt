@@ -10,7 +10,7 @@ use Rattle.std.specs.Prelude.{ℕ, zero, suc, ◌<◌, ◌≡◌, ◌≢◌, tru
 use Rattle.btor.specs.Operators.{Add}
 use Rattle.btor.specs.Sorts.{bit_code, word_code}
 use Rattle.rules.specs.Lists.{All}
-use Rattle.rules.specs.Refusal.{Out, refused, done, refuse, ◌>>=◌, OfDone}
+use Rattle.rules.specs.Refusal.{Out, done, refuse, ◌>>=◌, OfDone}
 use Rattle.rules.specs.Table.{Const, Word, Ult, Not, State, Next, Input, Row, Node, node_at, is, with}
 use Rattle.rules.specs.Model.{Model, Mode, model_of}
 use Rattle.rules.specs.Legal.{AllLegal, Sequential, Once}

@@ -1,7 +1,7 @@
 -- The result of an accepted call, as words (docs/FORMAT.md, "Result").
 --     result_words   the nine result sections, each after its count
 -- Assumes nothing.
-use Rattle.std.specs.Prelude.{ℕ, zero, suc, ◌+◌, ◌-◌, ◌*◌, List, [], ◌∷◌, ◌++◌, length}
+use Rattle.std.specs.Prelude.{ℕ, zero, suc, ◌+◌, ◌-◌, List, [], ◌∷◌, ◌++◌, length}
 use Rattle.rules.specs.Lists.{sum}
 use Rattle.rules.specs.Table.{Node, kind_code}
 use Rattle.rules.specs.Model.{Model}

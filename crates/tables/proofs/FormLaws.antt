@@ -11,7 +11,7 @@ use lib.Dec.{ltb, leb, eqb}
 use borrow.Author.Tests.{eqb-true, eqb-false, le-leb, ne_eqb, not-true}
 use Rattle.rules.specs.Refusal.{unless, first_of}
 use Rattle.rules.specs.Lists.{all_true, every}
-use Rattle.rules.specs.Table.{Node, Row, kind_of, kind_code, decode, fits, node_at, operands, operands_as}
+use Rattle.rules.specs.Table.{Node, Row, kind_of, kind_code, decode, fits, node_at, operands_as}
 use Rattle.rules.specs.Check.{known_kind, known_sort, unused_as, may_serve, sorted_as, sorted, rule3, check_node}
 use Rattle.rules.proofs.Base.{and_both}
 use Rattle.tables.specs.NodeAnswers.{row_at}

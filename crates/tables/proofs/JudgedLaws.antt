@@ -6,7 +6,7 @@ use mathlib.Core.Option.{Option, none, some}
 use mathlib.Core.List.{List, [], ◌∷◌}
 use native.Mathlib.Omega.{arith}
 use lib.ListN.{length}
-use Rattle.rules.specs.Refusal.{Refusal, Out, refused, done, ◌>>=◌, first_of, unless_refused}
+use Rattle.rules.specs.Refusal.{Refusal, Out, refused, done, first_of, unless_refused}
 use Rattle.rules.specs.Model.{Mode}
 use Rattle.rules.specs.Limits.{Limits}
 use Rattle.rules.specs.Check.{check}

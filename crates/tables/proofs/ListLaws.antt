@@ -13,7 +13,7 @@ use lib.Seq.{get_or-drop, get_or-take, drop-cons, get_or-set_same, get_or-set_ot
 use borrow.Author.Tests.{eqb-true, eqb-false, eq-eqb, ne_eqb}
 use Rattle.rules.specs.Refusal.{Refusal, unless, first_of}
 use Rattle.rules.specs.Lists.{all_true, member}
-use Rattle.rules.specs.Table.{Row, Node, decode, kind_code, node_at}
+use Rattle.rules.specs.Table.{Node, decode, kind_code, node_at}
 use Rattle.rules.specs.Check.{sequential_entry, bad_entry, check_sequentials, check_bads}
 use Rattle.tables.specs.NodeAnswers.{row_is}
 use Rattle.tables.specs.SectionAnswers.{words_in, Lies}

@@ -6,7 +6,7 @@ use mathlib.Core.List.{List}
 use native.Mathlib.Omega.{arith}
 use lib.ListN.{length, drop, drop_of_length-le}
 use lib.Seq.{drop-cons}
-use Rattle.rules.specs.Refusal.{Out, done, refuse}
+use Rattle.rules.specs.Refusal.{done, refuse}
 use Rattle.rules.specs.Sections.{none_left}
 use Rattle.tables.specs.SectionAnswers.{Lies, Inside}
 use Rattle.tables.specs.declared.refusal.Refusal.{Refusal}

@@ -1,6 +1,6 @@
 -- `btor_u64_div` is signed division: by 0 and for the least by -1 as the definition says, else by magnitudes and signs.
 -- Assumes nothing.
-use Rattle.std.proofs.Common.{◌≡◌, ℕ, ◌-◌, ◌/◌, ◌%◌, ◌^◌, false, sym, refl, ap, ◌∙◌, ap₂, rules, eq-eqb, ne_eqb}
+use Rattle.std.proofs.Common.{◌≡◌, ℕ, ◌-◌, ◌/◌, ◌%◌, ◌^◌, false, sym, ap, ◌∙◌, ap₂, rules, eq-eqb, ne_eqb}
 use Rattle.btor.specs.Operators.{compute, signed_div, overflow, rust}
 use Rattle.btor.proofs.Words.{magnitude-pos, div_quotient, quot_same-low, quot_same-high, quot_low-high, quot_high-low}
 use Rattle.btor.proofs.operators.btor_u64_div.Goals as goal

@@ -1,6 +1,6 @@
 -- `btor_u64_rem` is the unsigned remainder, and all ones by 0.
 -- Assumes nothing.
-use Rattle.std.proofs.Common.{rules, eq-eqb, ne_eqb}
+use Rattle.std.proofs.Common.{eq-eqb, ne_eqb}
 use Rattle.btor.specs.Operators.{compute}
 use Rattle.btor.proofs.operators.btor_u64_rem.Goals as goal
 

@@ -1,6 +1,6 @@
 -- `btor_u64_sll` shifts to the left below 64, and gives 0 from 64 on.
 -- Assumes nothing.
-use Rattle.std.proofs.Common.{rules, le-ltb, lt-ltb}
+use Rattle.std.proofs.Common.{le-ltb, lt-ltb}
 use Rattle.btor.specs.Operators.{compute}
 use Rattle.btor.proofs.operators.btor_u64_sll.Goals as goal
 

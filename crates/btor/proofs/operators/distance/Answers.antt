@@ -1,6 +1,6 @@
 -- `distance` is the magnitude, by the sign bit.
 -- Assumes nothing.
-use Rattle.std.proofs.Common.{arith, rules, le-ltb, lt-ltb}
+use Rattle.std.proofs.Common.{arith, le-ltb, lt-ltb}
 use Rattle.btor.specs.Operators.{magnitude}
 use Rattle.btor.proofs.operators.distance.Goals as goal
 

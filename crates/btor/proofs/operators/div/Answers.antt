@@ -1,6 +1,5 @@
 -- `div` calls the reading's own function.
 -- Assumes nothing.
-use Rattle.std.proofs.Common.{rules}
 use Rattle.btor.proofs.operators.div.Goals as goal
 
 pub returns-in-Rust : goal.returns-in-Rust

@@ -1,6 +1,6 @@
 -- `not` is the complement within the sort's width: the word's complement, masked by the sort's ones.
 -- Assumes nothing.
-use Rattle.std.proofs.Common.{◌≡◌, ℕ, ◌-◌, ap, ◌∙◌, rules}
+use Rattle.std.proofs.Common.{ℕ, ◌-◌, ap, ◌∙◌, rules}
 use lib.Bits.{bit_and}
 use Rattle.btor.specs.Sorts.{width_of}
 use Rattle.btor.proofs.Sorts.{width_le}

@@ -1,6 +1,5 @@
 -- `rem` calls the reading's own function.
 -- Assumes nothing.
-use Rattle.std.proofs.Common.{rules}
 use Rattle.btor.proofs.operators.rem.Goals as goal
 
 pub returns-in-Rust : goal.returns-in-Rust

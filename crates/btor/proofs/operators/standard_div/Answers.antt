@@ -1,6 +1,6 @@
 -- `standard_div` is the standard's signed division: by 0 and for the least by -1 as the definition says, else the quotient, which both readings share.
 -- Assumes nothing.
-use Rattle.std.proofs.Common.{◌≡◌, false, sym, ◌∙◌, rules, le-ltb, lt-ltb, eq-eqb, ne_eqb}
+use Rattle.std.proofs.Common.{◌≡◌, false, sym, ◌∙◌, le-ltb, lt-ltb, eq-eqb, ne_eqb}
 use Rattle.btor.specs.Operators.{compute, signed_div, overflow, rust, standard}
 use Rattle.btor.proofs.Words.{div_quotient}
 use Rattle.btor.proofs.operators.standard_div.Goals as goal

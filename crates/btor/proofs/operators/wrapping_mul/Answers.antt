@@ -1,6 +1,6 @@
 -- `wrapping_mul` is the product modulo 2^64: `product_by_pieces` adds up the ten pieces.
 -- Assumes nothing.
-use Rattle.std.proofs.Common.{◌≡◌, ◌∙◌, rules}
+use Rattle.std.proofs.Common.{◌∙◌, rules}
 use Rattle.btor.specs.Operators.{compute}
 use Rattle.btor.proofs.Words.{product_by_pieces}
 use Rattle.btor.proofs.operators.wrapping_mul.Goals as goal

@@ -1,6 +1,5 @@
 -- The four words of an answer are those that the rules give it, for both answers.
 -- Assumes nothing.
-use borrow.Author.Rules.{rules}
 use Prim.Native.Nat.{ℕ}
 use mathlib.Core.Path.{◌≡◌, sym, ap, ◌∙◌}
 use Rattle.rules.specs.Call.{Answer}

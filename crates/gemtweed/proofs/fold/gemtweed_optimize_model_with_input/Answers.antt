@@ -1,6 +1,5 @@
 -- The answer in words is that of `optimize_model_with_input`, and so is every word of both buffers.
 -- Assumes nothing.
-use borrow.Author.Rules.{rules}
 use mathlib.Core.Path.{◌∙◌}
 use Rattle.gemtweed.proofs.fold.gemtweed_optimize_model_with_input.Goals as goal
 

@@ -1,7 +1,5 @@
 -- The rules' judgement by the reply.
 -- Assumes nothing.
-use borrow.Author.Rules.{rules}
-use mathlib.Core.Path.{◌≡◌, sym, ◌∙◌}
 use Rattle.optimize.specs.Bads.{retained_of}
 use Rattle.optimize.specs.View.{view}
 use Rattle.optimize.proofs.BadLaws.{reply_drops, reply_refuses, reply-keeps, reply-none}

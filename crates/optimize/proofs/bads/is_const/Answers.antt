@@ -1,7 +1,5 @@
 -- The number of a constant, compared.
 -- Assumes nothing.
-use borrow.Author.Rules.{rules}
-use mathlib.Core.Path.{◌≡◌}
 use Rattle.optimize.proofs.bads.is_const.Goals as goal
 
 pub returns-in_default : goal.returns-in_default

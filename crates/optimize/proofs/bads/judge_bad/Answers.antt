@@ -1,6 +1,5 @@
 -- The rules' judgement by the condition, and by the reply where it is open.
 -- Assumes nothing.
-use borrow.Author.Rules.{rules}
 use mathlib.Core.Path.{sym, ◌∙◌}
 use borrow.Author.Tests.{not-true, not-false}
 use Rattle.optimize.specs.Bads.{retained_of}

@@ -1,21 +1,16 @@
 -- The first i bads are judged; what the rules make of the list is what they make of the rest, after those kept.
 -- Assumes nothing.
-use borrow.Author.Rules.{rules}
 use Prim.Native.Nat.{ℕ, ◌+◌, ◌-◌, ◌<◌, ◌≤◌}
-use mathlib.Core.Path.{◌≡◌, refl, sym, ◌∙◌, subst}
-use mathlib.Core.List.{List, []}
-use native.Mathlib.Omega.{arith}
+use mathlib.Core.Path.{◌≡◌}
+use mathlib.Core.List.{List}
 use lib.ListN.{length, get_or, take, drop}
-use lib.Seq.{length-take-le}
 use Rattle.rules.specs.Refusal.{done, ◌>>=◌}
-use Rattle.rules.specs.Legal.{BadEntry}
 use Rattle.rules.specs.Walk.{Held}
-use Rattle.optimize.specs.View.{table_of, view}
+use Rattle.optimize.specs.View.{view}
 use Rattle.optimize.specs.Laid.{Laid}
 use Rattle.optimize.specs.Lists.{entries_of}
 use Rattle.optimize.specs.Bads.{Spare, list_rule}
-use Rattle.optimize.proofs.Entries.{all-at, laid-visited}
-use Rattle.optimize.proofs.BadLaws.{before, list_start, bads-on, bads-stop, bads_end, bads-still, bads-still_1, bad-inside, laid_retained, spare_retained, spare-less, never_refused, laid_end, few_end, spare_end, take-front, retains, spare-visited}
+use Rattle.optimize.proofs.BadLaws.{before}
 use Rattle.optimize.specs.CallWords.{inputs_in, replies_in, mode_in, ways_by}
 use Rattle.optimize.proofs.bads.judge_bads.Given as goal
 

@@ -1,7 +1,5 @@
 -- An entry is put after those kept, or not.
 -- Assumes nothing.
-use borrow.Author.Rules.{rules}
-use mathlib.Core.Path.{◌≡◌}
 use Rattle.optimize.proofs.BadLaws.{kept_entry, no-entry}
 use Rattle.optimize.proofs.bads.put_if.Goals as goal
 

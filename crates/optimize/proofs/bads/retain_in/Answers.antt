@@ -1,6 +1,5 @@
 -- The judgement is lent the words before the lists.
 -- Assumes nothing.
-use borrow.Author.Rules.{rules}
 use Prim.Native.Nat.{◌-◌}
 use mathlib.Core.Path.{◌≡◌, sym, subst}
 use mathlib.Core.List.{List}
@@ -12,7 +11,7 @@ use Rattle.optimize.specs.View.{outcome_of}
 use Rattle.optimize.specs.Bads.{retained_of, visited_rule}
 use Rattle.optimize.specs.CallWords.{inputs_in, replies_in, ways_by}
 use Rattle.optimize.specs.Clauses.{MayAsk}
-use Rattle.optimize.proofs.Entries.{part-front, part-rest, part-whole, zero-less}
+use Rattle.optimize.proofs.Entries.{part-front, part-rest, zero-less}
 use Rattle.optimize.proofs.bads.retain_in.Goals as goal
 
 pub should_retain_bad_state-requires : goal.should_retain_bad_state-requires

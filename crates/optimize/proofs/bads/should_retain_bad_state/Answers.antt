@@ -1,6 +1,5 @@
 -- A done visit is judged by the rewritten condition, a refused one is the answer.
 -- Assumes nothing.
-use borrow.Author.Rules.{rules}
 use mathlib.Core.Path.{◌∙◌}
 use Rattle.optimize.specs.Bads.{retained_of}
 use Rattle.optimize.specs.CallWords.{inputs_in, replies_in, mode_in, ways_by}

@@ -1,6 +1,5 @@
 -- The number of a constant: a row of the table with Const's code, or one of the constants made.
 -- Assumes nothing.
-use borrow.Author.Rules.{rules}
 use native.Mathlib.Omega.{arith}
 use Rattle.optimize.proofs.RowLaws.{constant-row, constant-no-row, constant-made, constant-none}
 use Rattle.optimize.proofs.buffers.get_constant.Goals as goal

@@ -1,7 +1,6 @@
 -- A known code names its kind, any other reads as Input.
 -- Assumes nothing.
-use borrow.Author.Rules.{rules}
-use mathlib.Core.Path.{◌≡◌, sym, ap, ◌∙◌}
+use mathlib.Core.Path.{sym, ap, ◌∙◌}
 use Rattle.rules.specs.Table.{kind_of}
 use Rattle.tables.specs.NodeAnswers.{coded_kind_of, kind_is}
 use Rattle.tables.proofs.NodeLaws.{names-kind, names-none, unknown-kind}

@@ -1,8 +1,6 @@
 -- A constant pushed is one more constant of the state.
 -- Assumes nothing.
-use borrow.Author.Rules.{rules}
 use native.Mathlib.Omega.{arith}
-use lib.ListN.{length-set}
 use Rattle.optimize.proofs.Stores.{pushed}
 use Rattle.optimize.specs.Counters.{walk_in, one_made}
 use Rattle.optimize.proofs.CounterLaws.{view-put}

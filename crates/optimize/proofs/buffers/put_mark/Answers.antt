@@ -1,6 +1,5 @@
 -- A mark put is the state's mark set.
 -- Assumes nothing.
-use borrow.Author.Rules.{rules}
 use native.Mathlib.Omega.{arith}
 use lib.ListN.{length-set}
 use Prim.Native.Nat.{◌+◌, ◌*◌}

@@ -1,8 +1,6 @@
 -- Three stores make the row with its new operands.
 -- Assumes nothing.
-use borrow.Author.Rules.{rules}
 use native.Mathlib.Omega.{arith}
-use lib.ListN.{length-set}
 use Rattle.optimize.proofs.Stores.{rowed}
 use Rattle.optimize.proofs.buffers.put_row.Goals as goal
 

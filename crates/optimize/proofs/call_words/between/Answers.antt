@@ -1,6 +1,5 @@
 -- A part that ends where the words do, a whole part, or none.
 -- Assumes nothing.
-use borrow.Author.Rules.{rules}
 use native.Mathlib.Omega.{arith}
 use Rattle.optimize.proofs.CallLaws.{between_none, between-past, between-rest}
 use Rattle.optimize.proofs.call_words.between.Goals as goal

@@ -1,6 +1,5 @@
 -- A refusal for each number, in the order of specs/Counters; none for 9, and no number past the last.
 -- Assumes nothing.
-use borrow.Author.Rules.{rules}
 use mathlib.Core.Path.{sym}
 use mathlib.Core.Bool.{true, false}
 use native.Mathlib.Nat.{lt_irrefl, lt_of_lt_of_le}

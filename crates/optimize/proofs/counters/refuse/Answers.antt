@@ -1,6 +1,5 @@
 -- The three words of a refusal: its number is not 0, and it is found again by them.
 -- Assumes nothing.
-use borrow.Author.Rules.{rules}
 use mathlib.Core.Path.{◌∙◌}
 use Rattle.optimize.proofs.CounterLaws.{refusal-words}
 use Rattle.tables.specs.Refusals.{refusal_of}

@@ -1,6 +1,5 @@
 -- The refusal that the counters hold, or the walk.
 -- Assumes nothing.
-use borrow.Author.Rules.{rules}
 use mathlib.Core.Path.{ap, sym, ◌∙◌}
 use Rattle.optimize.specs.declared.walk.Visited.{Visited}
 use Rattle.optimize.proofs.CounterLaws.{went, stopped}

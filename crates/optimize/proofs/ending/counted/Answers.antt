@@ -1,6 +1,5 @@
 -- The state has the same inputs and replies left.
 -- Assumes nothing.
-use borrow.Author.Rules.{rules}
 use mathlib.Core.Path.{refl}
 use Rattle.optimize.proofs.EndLaws.{same-counted}
 use Rattle.optimize.proofs.ending.counted.Goals as goal

@@ -1,6 +1,5 @@
 -- The result of the run, over the parts that the words name.
 -- Assumes nothing.
-use borrow.Author.Rules.{rules}
 use mathlib.Core.Path.{sym, subst}
 use Rattle.optimize.specs.Ending.{Ended}
 use Rattle.optimize.proofs.CallLaws.{writes-by}

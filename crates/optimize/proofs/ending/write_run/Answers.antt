@@ -1,6 +1,5 @@
 -- The counters are made sure of; the state is the same, so the result is that of the walk.
 -- Assumes nothing.
-use borrow.Author.Rules.{rules}
 use mathlib.Core.Path.{refl}
 use Rattle.optimize.proofs.EndLaws.{finished, same_fold, handed_same}
 use Rattle.optimize.proofs.ending.write_run.Goals as goal

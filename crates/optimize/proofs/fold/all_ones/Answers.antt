@@ -1,7 +1,6 @@
 -- `all_ones` has the sort's ones, and 0 where the code names no sort.
 -- Assumes nothing.
-use borrow.Author.Rules.{rules}
-use mathlib.Core.Path.{◌≡◌, sym, ◌∙◌}
+use mathlib.Core.Path.{sym, ◌∙◌}
 use Rattle.optimize.proofs.FoldLaws.{ones-known, ones-unknown}
 use Rattle.optimize.proofs.fold.all_ones.Goals as goal
 

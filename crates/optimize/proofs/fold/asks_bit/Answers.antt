@@ -1,6 +1,5 @@
 -- `asks_bit` has an arm for each rule.
 -- Assumes nothing.
-use borrow.Author.Rules.{rules}
 use Rattle.optimize.proofs.fold.asks_bit.Goals as goal
 
 pub returns-in-And : goal.returns-in-And

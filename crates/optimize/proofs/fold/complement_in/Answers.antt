@@ -1,7 +1,6 @@
 -- `complement_in` has the complement within the sort's width, and 0 where the code names no sort.
 -- Assumes nothing.
-use borrow.Author.Rules.{rules}
-use mathlib.Core.Path.{◌≡◌, sym, ◌∙◌}
+use mathlib.Core.Path.{sym, ◌∙◌}
 use Rattle.optimize.proofs.FoldLaws.{complement-known, complement-unknown}
 use Rattle.optimize.proofs.fold.complement_in.Goals as goal
 

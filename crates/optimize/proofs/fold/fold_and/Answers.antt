@@ -1,7 +1,6 @@
 -- `fold_and` makes the four tests in the order of the rule; then it sets an operand that is no constant aside, and folds two.
 -- Assumes nothing.
-use borrow.Author.Rules.{rules}
-use mathlib.Core.Path.{◌≡◌, sym, ap, ◌∙◌}
+use mathlib.Core.Path.{sym, ap, ◌∙◌}
 use Rattle.rules.specs.Fold.{make}
 use Rattle.optimize.proofs.fold.fold_and.Goals as goal
 

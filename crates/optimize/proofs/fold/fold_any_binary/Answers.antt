@@ -1,7 +1,6 @@
 -- `fold_any_binary` sets an operand that is no constant aside, and applies the operator to two; what it makes has the node's sort.
 -- Assumes nothing.
-use borrow.Author.Rules.{rules}
-use mathlib.Core.Path.{◌≡◌, ap}
+use mathlib.Core.Path.{ap}
 use Rattle.rules.specs.Fold.{make}
 use Rattle.optimize.proofs.fold.fold_any_binary.Goals as goal
 

@@ -1,9 +1,5 @@
 -- `fold_const` is by the two tests of the rule.
 -- Assumes nothing.
-use borrow.Author.Rules.{rules}
-use mathlib.Core.Path.{◌≡◌, ap}
-use native.Mathlib.Numerals.{add-one}
-use Rattle.rules.specs.Fold.{swap}
 use borrow.Author.Tests.{eq-eqb, ne_eqb}
 use Rattle.optimize.proofs.fold.fold_const.Goals as goal
 

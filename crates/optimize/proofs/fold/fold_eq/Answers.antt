@@ -1,7 +1,5 @@
 -- `fold_eq` is true at one node; else it sets an operand that is no constant aside, and compares two.
 -- Assumes nothing.
-use borrow.Author.Rules.{rules}
-use mathlib.Core.Path.{◌≡◌}
 use borrow.Author.Tests.{eq-eqb, ne_eqb}
 use Rattle.optimize.proofs.fold.fold_eq.Goals as goal
 

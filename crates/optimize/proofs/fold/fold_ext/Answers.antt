@@ -1,7 +1,6 @@
 -- `fold_ext` makes the same number, of the node's sort.
 -- Assumes nothing.
-use borrow.Author.Rules.{rules}
-use mathlib.Core.Path.{◌≡◌, ap}
+use mathlib.Core.Path.{ap}
 use Rattle.rules.specs.Fold.{make}
 use Rattle.optimize.proofs.fold.fold_ext.Goals as goal
 

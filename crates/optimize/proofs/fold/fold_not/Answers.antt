@@ -1,8 +1,6 @@
 -- `fold_not` is by the two tests of the rule; the ways past them meet before the complement is made.
 -- Assumes nothing.
-use borrow.Author.Rules.{rules}
-use mathlib.Core.Path.{◌≡◌, ap}
-use mathlib.Core.Logic.{⊎_elim}
+use mathlib.Core.Path.{ap}
 use borrow.Author.Tests.{eq-eqb, ne_eqb}
 use Rattle.rules.specs.Fold.{make}
 use Rattle.optimize.proofs.fold.fold_not.Goals as goal

@@ -1,6 +1,5 @@
 -- `fold_one` has an arm for each rule.
 -- Assumes nothing.
-use borrow.Author.Rules.{rules}
 use Rattle.optimize.proofs.fold.fold_one.Goals as goal
 
 pub returns-in-Ext : goal.returns-in-Ext

@@ -1,6 +1,5 @@
 -- `fold_two` has an arm for each rule.
 -- Assumes nothing.
-use borrow.Author.Rules.{rules}
 use Rattle.optimize.proofs.fold.fold_two.Goals as goal
 
 pub returns-in-Word : goal.returns-in-Word

@@ -1,7 +1,5 @@
 -- `is_const_ones` compares a constant with all ones of the sort.
 -- Assumes nothing.
-use borrow.Author.Rules.{rules}
-use mathlib.Core.Path.{◌≡◌}
 use Rattle.optimize.proofs.fold.is_const_ones.Goals as goal
 
 pub returns : goal.returns

@@ -1,7 +1,5 @@
 -- `is_const_zeroes` compares a constant with 0.
 -- Assumes nothing.
-use borrow.Author.Rules.{rules}
-use mathlib.Core.Path.{◌≡◌}
 use Rattle.optimize.proofs.fold.is_const_zeroes.Goals as goal
 
 pub returns : goal.returns

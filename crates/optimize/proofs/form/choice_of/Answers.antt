@@ -1,6 +1,5 @@
 -- `choice_of` meets its contract: by the number of the constant, if the condition is one.
 -- Assumes nothing.
-use borrow.Author.Rules.{rules}
 use mathlib.Core.Path.{sym}
 use Rattle.optimize.proofs.Walks.{branch-none, branch_one, branch-zero, branch-other}
 use Rattle.optimize.proofs.form.choice_of.Goals as goal

@@ -1,6 +1,5 @@
 -- The form by the node's kind and its word b.
 -- Assumes nothing.
-use borrow.Author.Rules.{rules}
 use mathlib.Core.Path.{ap₂, ◌∙◌}
 use Rattle.optimize.specs.Process.{form_of}
 use Rattle.optimize.proofs.form.form_at.Goals as goal

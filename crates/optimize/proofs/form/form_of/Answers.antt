@@ -1,8 +1,5 @@
 -- An arm for each kind; a State by its word b.
 -- Assumes nothing.
-use borrow.Author.Rules.{rules}
-use mathlib.Core.Path.{◌≡◌, refl, ap, sym, ◌∙◌}
-use mathlib.Core.Bool.{cond}
 use borrow.Author.Tests.{eq-eqb, ne_eqb}
 use Rattle.optimize.specs.Process.{form_of}
 use Rattle.optimize.proofs.form.form_of.Goals as goal

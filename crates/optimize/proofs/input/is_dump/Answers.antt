@@ -1,7 +1,6 @@
 -- A name past the marks starts with nothing.
 -- Assumes nothing.
-use borrow.Author.Rules.{rules}
-use mathlib.Core.Path.{◌≡◌, refl, ap, sym, ◌∙◌}
+use mathlib.Core.Path.{sym}
 use native.Mathlib.Omega.{arith}
 use Rattle.optimize.proofs.Finishes.{dump-past}
 use Rattle.optimize.proofs.input.is_dump.Goals as goal

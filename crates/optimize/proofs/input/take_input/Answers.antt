@@ -1,8 +1,6 @@
 -- No input left or a memory dump: the State stays. A memory and too wide an input are refused; else a constant replaces it.
 -- Assumes nothing.
-use borrow.Author.Rules.{rules}
 use native.Mathlib.Omega.{arith}
-use borrow.Author.Tests.{not-true, not-false}
 use mathlib.Core.List.{[], ◌∷◌, ◌++◌}
 use lib.ListN.{get_or, drop}
 use Rattle.rules.specs.Table.{fits}
@@ -10,7 +8,7 @@ use Rattle.optimize.specs.Bounds.{count_of}
 use Rattle.optimize.specs.View.{view, table_of, ways_in}
 use Rattle.optimize.proofs.Finishes.{take_none, take-dump, take-memory, take-wide, take-made, inputs-none, inputs-some, took}
 use mathlib.Core.Path.{ap, sym, ◌∙◌, subst}
-use Prim.Native.Nat.{suc, ◌+◌, ◌<◌}
+use Prim.Native.Nat.{suc, ◌<◌}
 use Rattle.rules.specs.Fold.{make}
 use Rattle.tables.specs.declared.refusal.Refusal.{Refusal}
 use Rattle.rules.specs.Visit.{new_number, settle}

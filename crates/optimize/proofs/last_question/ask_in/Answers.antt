@@ -1,6 +1,5 @@
 -- The question is lent the words before the lists.
 -- Assumes nothing.
-use borrow.Author.Rules.{rules}
 use Prim.Native.Nat.{◌-◌}
 use mathlib.Core.Path.{sym, ap, ◌∙◌}
 use mathlib.Core.List.{[]}
@@ -10,7 +9,7 @@ use lib.Seq.{length-take-le}
 use Rattle.rules.specs.Questions.{ask}
 use Rattle.optimize.specs.View.{view}
 use Rattle.optimize.specs.Process.{asked_of}
-use Rattle.optimize.proofs.Entries.{part-front, part-rest, part-whole, zero-less}
+use Rattle.optimize.proofs.Entries.{part-front, part-rest, zero-less}
 use Rattle.optimize.proofs.last_question.ask_in.Goals as goal
 
 pub ask_at-requires : goal.ask_at-requires

@@ -1,6 +1,5 @@
 -- The last question, over the replies that the words name.
 -- Assumes nothing.
-use borrow.Author.Rules.{rules}
 use Rattle.optimize.proofs.CallLaws.{asks-by}
 use Rattle.optimize.proofs.last_question.put_last_question.Goals as goal
 

@@ -1,7 +1,6 @@
 -- The verdict by the reply.
 -- Assumes nothing.
-use borrow.Author.Rules.{rules}
-use mathlib.Core.Path.{◌≡◌, sym, ap}
+use mathlib.Core.Path.{sym, ap}
 use Rattle.optimize.specs.LastQuestion.{answered_of, verdict_then}
 use Rattle.optimize.specs.Process.{asked_of}
 use Rattle.optimize.proofs.LastQuestion.{verdict-reply, verdict-two, verdict_one}

@@ -1,15 +1,10 @@
 -- The first i entries are visited; the list stays, and what the rules make of it is what they make of the rest.
 -- Assumes nothing.
-use borrow.Author.Rules.{rules}
-use Prim.Native.Nat.{◌+◌, ◌-◌, ◌<◌, ◌≤◌}
-use mathlib.Core.Path.{◌≡◌, refl, sym, ◌∙◌, subst}
-use mathlib.Core.List.{List}
+use Prim.Native.Nat.{◌+◌, ◌<◌}
+use mathlib.Core.Path.{refl, sym, ◌∙◌, subst}
 use native.Mathlib.Omega.{arith}
-use lib.ListN.{length, take, drop}
-use Rattle.rules.specs.Walk.{Held}
-use Rattle.rules.specs.Whole.{visit_all}
+use lib.ListN.{take}
 use Rattle.optimize.specs.Bounds.{count_of}
-use Rattle.optimize.specs.View.{table_of, view}
 use Rattle.optimize.specs.Laid.{Laid}
 use Rattle.optimize.specs.Lists.{entries_of}
 use lib.Seq.{length-take-le}

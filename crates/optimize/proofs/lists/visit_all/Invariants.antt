@@ -1,19 +1,14 @@
 -- The first i entries are visited; the list stays, and what the rules make of it is what they make of the rest.
 -- Assumes nothing.
-use borrow.Author.Rules.{rules}
-use Prim.Native.Nat.{◌+◌, ◌-◌, ◌<◌, ◌≤◌}
-use mathlib.Core.Path.{◌≡◌, refl, sym, ◌∙◌, subst}
+use Prim.Native.Nat.{◌-◌, ◌≤◌}
+use mathlib.Core.Path.{◌≡◌}
 use mathlib.Core.List.{List}
-use native.Mathlib.Omega.{arith}
 use lib.ListN.{length, take, drop}
 use Rattle.rules.specs.Walk.{Held}
 use Rattle.rules.specs.Whole.{visit_all}
-use Rattle.optimize.specs.Bounds.{count_of}
 use Rattle.optimize.specs.View.{table_of, view}
 use Rattle.optimize.specs.Laid.{Laid}
 use Rattle.optimize.specs.Lists.{entries_of}
-use lib.Seq.{length-take-le}
-use Rattle.optimize.proofs.Entries.{all-at, entries-length, entry_at, same-entry, visits-on, visits-stop, visits_end, laid-visited, refused_never, done-walk}
 use Rattle.optimize.specs.CallWords.{inputs_in, replies_in, mode_in, ways_by}
 use Rattle.optimize.proofs.lists.visit_all.Given as goal
 

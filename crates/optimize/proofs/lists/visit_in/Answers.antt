@@ -1,6 +1,5 @@
 -- The visit is lent the words before the lists.
 -- Assumes nothing.
-use borrow.Author.Rules.{rules}
 use Prim.Native.Nat.{◌-◌}
 use mathlib.Core.Path.{sym, subst}
 use native.Mathlib.Omega.{arith}
@@ -8,7 +7,7 @@ use lib.ListN.{take}
 use Rattle.optimize.specs.View.{view, Meets}
 use Rattle.optimize.specs.Process.{visit_of}
 use Rattle.optimize.specs.Laid.{Laid}
-use Rattle.optimize.proofs.Entries.{part-front, part-rest, part-whole, zero-less}
+use Rattle.optimize.proofs.Entries.{part-front, part-rest, zero-less}
 use Rattle.optimize.specs.CallWords.{inputs_in, replies_in, mode_in, ways_by}
 use Rattle.optimize.proofs.lists.visit_in.Goals as goal
 

@@ -1,12 +1,7 @@
 -- `find_in_memory` keeps the invariant Searched: each look is a step of the rules' walk. The measure is the fuel that is left.
 -- Assumes nothing.
-use borrow.Author.Rules.{rules}
-use Prim.Native.Nat.{◌-◌}
-use mathlib.Core.Logic.{⊎_elim}
 use native.Mathlib.Omega.{arith}
-use Rattle.btor.specs.Readings.{reading_is}
-use Rattle.optimize.specs.Bounds.{count_of}
-use Rattle.optimize.proofs.SearchLaws.{Searched, search_start, search_settled, search_unsettled, hit_within, search_hit, stop_within, search_stop, search_end}
+use Rattle.optimize.proofs.SearchLaws.{search_start, search_settled, search_unsettled, hit_within, search_hit, stop_within, search_stop, search_end}
 use Rattle.optimize.proofs.memory.find_in_memory.Goals as goal
 use Rattle.optimize.proofs.memory.find_in_memory.Goals.{in-Settled, in-Unsettled}
 

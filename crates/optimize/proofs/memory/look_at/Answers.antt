@@ -1,6 +1,5 @@
 -- `look_at` by the words of the row at that place.
 -- Assumes nothing.
-use borrow.Author.Rules.{rules}
 use mathlib.Core.Path.{sym, ap, ◌∙◌}
 use native.Mathlib.Omega.{arith}
 use Rattle.btor.specs.Readings.{reading_is}

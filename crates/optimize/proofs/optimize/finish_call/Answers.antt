@@ -1,6 +1,5 @@
 -- The answer stays; scratch is cleared, and result on a refusal.
 -- Assumes nothing.
-use borrow.Author.Rules.{rules}
 use mathlib.Core.Path.{sym, ap, ◌∙◌}
 use Rattle.optimize.specs.Entries.{result_left}
 use Rattle.optimize.specs.declared.walk.Optimized.{Optimized}

@@ -1,6 +1,5 @@
 -- What the walk hands back of a call in order is what the rules leave.
 -- Assumes nothing.
-use borrow.Author.Rules.{rules}
 use mathlib.Core.Path.{ap, ◌∙◌}
 use Rattle.tables.specs.Judging.{call_with}
 use lib.ListN.{length}

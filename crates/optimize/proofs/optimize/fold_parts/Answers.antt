@@ -1,6 +1,5 @@
 -- The walk runs on the parts, in the mode that the last word says.
 -- Assumes nothing.
-use borrow.Author.Rules.{rules}
 use Rattle.optimize.specs.CallWords.{inputs_in, replies_in}
 use Rattle.optimize.specs.Entries.{RunnableParts, model_parts}
 use Rattle.optimize.proofs.EntryLaws.{run-mode}

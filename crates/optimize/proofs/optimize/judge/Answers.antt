@@ -1,7 +1,5 @@
 -- `judge` is that of tables by the house's limits.
 -- Assumes nothing.
-use borrow.Author.Rules.{rules}
-use Prim.Native.Nat.{ℕ}
 use mathlib.Core.Path.{ap, subst, ◌∙◌}
 use Rattle.rules.specs.Limits.{Limits}
 use Rattle.tables.specs.Judging.{IsCut, judged_count}

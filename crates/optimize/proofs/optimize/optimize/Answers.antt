@@ -1,6 +1,5 @@
 -- Judged, then folded: both answers of `judge` leave what the rules leave.
 -- Assumes nothing.
-use borrow.Author.Rules.{rules}
 use mathlib.Core.Path.{sym, ap, ◌∙◌}
 use lib.ListN.{length}
 use Rattle.tables.specs.Judging.{verdict_of}

@@ -1,11 +1,8 @@
 -- `clear_from` leaves the words before a place and zeros from there on. The loop has cleared what stands between the place and `i`.
 -- Assumes nothing.
-use borrow.Author.Rules.{rules}
-use Prim.Native.Nat.{◌+◌, ◌-◌, ◌≤◌}
-use mathlib.Core.Path.{◌≡◌, refl}
-use mathlib.Core.List.{◌++◌}
+use mathlib.Core.Path.{refl}
 use native.Mathlib.Omega.{arith}
-use lib.ListN.{length, take, replicate, length-set}
+use lib.ListN.{length-set}
 use Rattle.optimize.proofs.BufferLaws.{clear-start, clear_turn, clear_end}
 use Rattle.optimize.proofs.result.clear_from.Goals as goal
 

@@ -1,12 +1,9 @@
 -- `clear_from` leaves the words before a place and zeros from there on. The loop has cleared what stands between the place and `i`.
 -- Assumes nothing.
-use borrow.Author.Rules.{rules}
-use Prim.Native.Nat.{◌+◌, ◌-◌, ◌≤◌}
-use mathlib.Core.Path.{◌≡◌, refl}
+use Prim.Native.Nat.{◌-◌, ◌≤◌}
+use mathlib.Core.Path.{◌≡◌}
 use mathlib.Core.List.{◌++◌}
-use native.Mathlib.Omega.{arith}
-use lib.ListN.{length, take, replicate, length-set}
-use Rattle.optimize.proofs.BufferLaws.{clear-start, clear_turn, clear_end}
+use lib.ListN.{length, take, replicate}
 use Rattle.optimize.proofs.result.clear_from.Given as goal
 
 abbrev pub invariant-loop-i : goal.invariant-loop-i

@@ -1,10 +1,9 @@
 -- `copy_words` pastes a part of one list into another. The loop has pasted the first `i` words.
 -- Assumes nothing.
-use borrow.Author.Rules.{rules}
-use Prim.Native.Nat.{ℕ, ◌-◌, ◌≤◌}
+use Prim.Native.Nat.{ℕ}
 use mathlib.Core.Path.{◌≡◌, refl, ap, ◌∙◌}
 use native.Mathlib.Omega.{arith}
-use lib.ListN.{length, drop, length-set}
+use lib.ListN.{drop, length-set}
 use lib.Seq.{paste, paste-zero}
 use Rattle.optimize.proofs.BufferLaws.{copy_turn}
 use Rattle.optimize.proofs.result.copy_words.Goals as goal

@@ -1,12 +1,9 @@
 -- `copy_words` pastes a part of one list into another. The loop has pasted the first `i` words.
 -- Assumes nothing.
-use borrow.Author.Rules.{rules}
-use Prim.Native.Nat.{ℕ, ◌-◌, ◌≤◌}
-use mathlib.Core.Path.{◌≡◌, refl, ap, ◌∙◌}
-use native.Mathlib.Omega.{arith}
-use lib.ListN.{length, drop, length-set}
-use lib.Seq.{paste, paste-zero}
-use Rattle.optimize.proofs.BufferLaws.{copy_turn}
+use Prim.Native.Nat.{◌-◌, ◌≤◌}
+use mathlib.Core.Path.{◌≡◌}
+use lib.ListN.{length, drop}
+use lib.Seq.{paste}
 use Rattle.optimize.proofs.result.copy_words.Given as goal
 
 abbrev pub invariant-loop-i : goal.invariant-loop-i

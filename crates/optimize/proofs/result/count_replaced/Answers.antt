@@ -1,10 +1,8 @@
 -- `count_replaced` is the sum over the marks. The loop has counted the first `i`.
 -- Assumes nothing.
-use borrow.Author.Rules.{rules}
-use Prim.Native.Nat.{ℕ, ◌-◌, ◌≤◌}
+use Prim.Native.Nat.{ℕ}
 use mathlib.Core.Path.{◌≡◌, refl, ap, ◌∙◌}
 use native.Mathlib.Omega.{arith}
-use mathlib.Core.Logic.{⊎_elim}
 use Rattle.rules.specs.Lists.{sum}
 use Rattle.rules.specs.Result.{is_replaced}
 use Rattle.optimize.specs.View.{mark_of}

@@ -1,14 +1,10 @@
 -- `count_replaced` is the sum over the marks. The loop has counted the first `i`.
 -- Assumes nothing.
-use borrow.Author.Rules.{rules}
-use Prim.Native.Nat.{ℕ, ◌-◌, ◌≤◌}
-use mathlib.Core.Path.{◌≡◌, refl, ap, ◌∙◌}
-use native.Mathlib.Omega.{arith}
-use mathlib.Core.Logic.{⊎_elim}
+use Prim.Native.Nat.{◌-◌, ◌≤◌}
+use mathlib.Core.Path.{◌≡◌}
 use Rattle.rules.specs.Lists.{sum}
 use Rattle.rules.specs.Result.{is_replaced}
 use Rattle.optimize.specs.View.{mark_of}
-use Rattle.optimize.proofs.WriteLaws.{count_low, count-high}
 use Rattle.optimize.proofs.result.count_replaced.Given as goal
 
 abbrev pub invariant-loop-i : goal.invariant-loop-i

@@ -1,12 +1,7 @@
 -- `set_up` leaves the state at the start of the walk: by SetUpLaws, from what the copy, the four stores and the clearing leave.
 -- Assumes nothing.
-use borrow.Author.Rules.{rules}
-use Prim.Native.Nat.{◌-◌}
 use native.Mathlib.Omega.{arith}
 use mathlib.Core.Path.{sym}
-use lib.ListN.{length-set}
-use lib.Seq.{length_front}
-use Rattle.optimize.specs.Bounds.{count_of}
 use Rattle.optimize.proofs.SetUpLaws.{set_up_left}
 use Rattle.optimize.proofs.Entries.{zero-less}
 use Rattle.optimize.proofs.result.set_up.Goals as goal

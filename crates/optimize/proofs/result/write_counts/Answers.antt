@@ -1,9 +1,7 @@
 -- `write_counts` is two stores.
 -- Assumes nothing.
-use borrow.Author.Rules.{rules}
 use mathlib.Core.Path.{refl}
 use native.Mathlib.Omega.{arith}
-use lib.ListN.{length-set}
 use Rattle.optimize.proofs.WriteLaws.{wrote_counts}
 use Rattle.optimize.proofs.result.write_counts.Goals as goal
 

@@ -1,6 +1,5 @@
 -- `write_lists` is three sections, one after the other.
 -- Assumes nothing.
-use mathlib.Core.Path.{◌∙◌}
 use native.Mathlib.Omega.{arith}
 use Rattle.optimize.proofs.WriteLaws.{wrote_then}
 use Rattle.optimize.proofs.result.write_lists.Goals as goal

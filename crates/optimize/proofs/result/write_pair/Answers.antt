@@ -1,8 +1,6 @@
 -- `write_pair` writes what the mark says: nothing, or the node and its replacement.
 -- Assumes nothing.
-use borrow.Author.Rules.{rules}
 use native.Mathlib.Omega.{arith}
-use lib.ListN.{length-set}
 use Rattle.optimize.proofs.WriteLaws.{pair_none, pair_put}
 use Rattle.optimize.proofs.result.write_pair.Goals as goal
 

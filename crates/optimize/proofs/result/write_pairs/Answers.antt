@@ -1,10 +1,8 @@
 -- `write_pairs` gathers the pairs. The loop has written those of the first `i` nodes.
 -- Assumes nothing.
-use borrow.Author.Rules.{rules}
-use Prim.Native.Nat.{ℕ, ◌+◌, ◌-◌, ◌*◌, ◌≤◌}
+use Prim.Native.Nat.{ℕ}
 use mathlib.Core.Path.{◌≡◌, refl, ◌∙◌, subst}
 use native.Mathlib.Omega.{arith}
-use lib.ListN.{length}
 use Rattle.rules.specs.Result.{mark_words, gather}
 use Rattle.optimize.specs.View.{mark_of}
 use Rattle.optimize.specs.ResultView.{Wrote}

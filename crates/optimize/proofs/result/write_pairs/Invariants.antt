@@ -1,14 +1,11 @@
 -- `write_pairs` gathers the pairs. The loop has written those of the first `i` nodes.
 -- Assumes nothing.
-use borrow.Author.Rules.{rules}
-use Prim.Native.Nat.{ℕ, ◌+◌, ◌-◌, ◌*◌, ◌≤◌}
-use mathlib.Core.Path.{◌≡◌, refl, ◌∙◌, subst}
-use native.Mathlib.Omega.{arith}
+use Prim.Native.Nat.{◌+◌, ◌-◌, ◌*◌, ◌≤◌}
+use mathlib.Core.Path.{◌≡◌}
 use lib.ListN.{length}
 use Rattle.rules.specs.Result.{mark_words, gather}
 use Rattle.optimize.specs.View.{mark_of}
 use Rattle.optimize.specs.ResultView.{Wrote}
-use Rattle.optimize.proofs.WriteLaws.{wrote_first, wrote_more}
 use Rattle.optimize.proofs.result.write_pairs.Given as goal
 
 abbrev pub invariant-loop-i : goal.invariant-loop-i

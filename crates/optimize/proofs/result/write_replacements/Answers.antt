@@ -1,7 +1,5 @@
 -- `write_replacements` is the count of the replaced nodes, and the pairs behind it.
 -- Assumes nothing.
-use borrow.Author.Rules.{rules}
-use mathlib.Core.Path.{◌∙◌}
 use native.Mathlib.Omega.{arith}
 use lib.ListN.{length-set}
 use Rattle.optimize.proofs.WriteLaws.{wrote_after}

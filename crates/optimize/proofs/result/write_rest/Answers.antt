@@ -1,7 +1,5 @@
 -- `write_rest` is two sections and the tally, one after the other.
 -- Assumes nothing.
-use borrow.Author.Rules.{rules}
-use mathlib.Core.Path.{◌∙◌}
 use native.Mathlib.Omega.{arith}
 use Rattle.optimize.proofs.WriteLaws.{wrote_then}
 use Rattle.optimize.proofs.result.write_rest.Goals as goal

@@ -1,6 +1,5 @@
 -- `write_result` hands the nine sections back: what its writers put behind one another are the sections' words (ResultLaws), and the rest is cleared.
 -- Assumes nothing.
-use borrow.Author.Rules.{rules}
 use mathlib.Core.Path.{◌∙◌}
 use native.Mathlib.Omega.{arith}
 use Rattle.optimize.proofs.WriteLaws.{wrote_then}

@@ -1,7 +1,6 @@
 -- `write_section` is one store and a copy behind it.
 -- Assumes nothing.
-use borrow.Author.Rules.{rules}
-use mathlib.Core.Path.{refl, ◌∙◌}
+use mathlib.Core.Path.{refl}
 use native.Mathlib.Omega.{arith}
 use lib.ListN.{length-set}
 use Rattle.optimize.proofs.WriteLaws.{wrote_section}

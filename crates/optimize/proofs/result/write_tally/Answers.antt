@@ -1,9 +1,6 @@
 -- `write_tally` is six stores.
 -- Assumes nothing.
-use borrow.Author.Rules.{rules}
 use mathlib.Core.Path.{refl}
-use native.Mathlib.Omega.{arith}
-use lib.ListN.{length-set}
 use Rattle.optimize.proofs.WriteLaws.{wrote_tally}
 use Rattle.optimize.proofs.result.write_tally.Goals as goal
 

@@ -1,6 +1,5 @@
 -- The initial bads, the last question and the later bads as given; where the question is answered the result is written.
 -- Assumes nothing.
-use borrow.Author.Rules.{rules}
 use mathlib.Core.Path.{refl, ◌∙◌}
 use native.Mathlib.Omega.{arith}
 use Prim.Native.Nat.{◌+◌}

@@ -1,6 +1,5 @@
 -- The sequentials, then the bads of one or both lists.
 -- Assumes nothing.
-use borrow.Author.Rules.{rules}
 use mathlib.Core.Path.{◌∙◌, sym}
 use mathlib.Core.Bool.{true, false}
 use native.Mathlib.Omega.{arith}

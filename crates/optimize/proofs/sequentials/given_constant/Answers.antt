@@ -1,8 +1,7 @@
 -- A row of the table with Const's code has its number in a.
 -- Assumes nothing.
-use borrow.Author.Rules.{rules}
 use native.Mathlib.Omega.{arith}
-use mathlib.Core.Path.{◌≡◌, sym, ◌∙◌}
+use mathlib.Core.Path.{sym, ◌∙◌}
 use Rattle.optimize.proofs.Entries.{given-constant, given-none}
 use Rattle.optimize.proofs.sequentials.given_constant.Goals as goal
 

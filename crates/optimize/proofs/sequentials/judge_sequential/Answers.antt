@@ -1,15 +1,12 @@
 -- A sequential is kept as an entry, or dropped with a mark on its state.
 -- Assumes nothing.
-use borrow.Author.Rules.{rules}
 use native.Mathlib.Omega.{arith}
-use mathlib.Core.Path.{◌≡◌, sym, ap, ◌∙◌}
+use mathlib.Core.Path.{sym, ap, ◌∙◌}
 use Rattle.optimize.specs.Lists.{entries_of, joined}
 use Rattle.rules.specs.Whole.{judge_sequentials}
-use Rattle.rules.specs.Table.{node_at}
 use Rattle.optimize.specs.View.{table_of, view}
-use mathlib.Core.List.{◌∷◌}
 use Rattle.optimize.proofs.Entries.{sequential_inside, keep_step, drop-step}
-use Prim.Native.Nat.{ℕ, ◌+◌}
+use Prim.Native.Nat.{◌+◌}
 use Rattle.optimize.proofs.sequentials.judge_sequential.Goals as goal
 
 pub returns-then-should_retain_sequential : goal.returns-then-should_retain_sequential

@@ -1,18 +1,13 @@
 -- The first i sequentials are judged; what the rules make of the list is what they make of the rest, after those kept.
 -- Assumes nothing.
-use borrow.Author.Rules.{rules}
-use Prim.Native.Nat.{ℕ, ◌+◌, ◌-◌, ◌*◌, ◌≤◌}
-use mathlib.Core.Path.{◌≡◌, refl, ap, ◌∙◌}
-use mathlib.Core.List.{List}
+use Prim.Native.Nat.{◌+◌}
+use mathlib.Core.Path.{refl, ap, ◌∙◌}
 use native.Mathlib.Omega.{arith}
 use native.Mathlib.Numerals.{add-one}
-use lib.ListN.{length, drop, drop_of_length-le}
+use lib.ListN.{drop, drop_of_length-le}
 use lib.Seq.{drop-cons}
-use Rattle.rules.specs.Walk.{Held}
 use Rattle.rules.specs.Legal.{Sequential}
 use Rattle.rules.specs.Whole.{judge_sequentials}
-use Rattle.optimize.specs.declared.walk.Walk.{Walk}
-use Rattle.optimize.specs.Bounds.{count_of}
 use Rattle.optimize.specs.View.{table_of, view}
 use Rattle.optimize.specs.Lists.{entries_of, joined}
 use Rattle.optimize.proofs.Entries.{all-at, judged-all}

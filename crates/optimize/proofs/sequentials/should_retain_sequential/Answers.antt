@@ -1,12 +1,8 @@
 -- The rules' test of a Next, on the table as given.
 -- Assumes nothing.
-use borrow.Author.Rules.{rules}
 use native.Mathlib.Omega.{arith}
-use mathlib.Core.Path.{◌≡◌, sym, ap, ◌∙◌}
+use mathlib.Core.Path.{sym, ap, ◌∙◌}
 use Rattle.optimize.specs.View.{constant_is}
-use Rattle.rules.specs.Table.{node_at}
-use Rattle.rules.specs.Fold.{const_of}
-use Rattle.optimize.specs.View.{table_of}
 use Rattle.optimize.proofs.Entries.{sequential_inside, retain_itself, retain_no-init, retain_no-next, retain_two}
 use Rattle.optimize.proofs.sequentials.should_retain_sequential.Goals as goal
 

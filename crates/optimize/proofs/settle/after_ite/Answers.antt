@@ -1,9 +1,7 @@
 -- An Ite of sort 1 is asked about as a bit, then against its condition; one of sort 2 against each branch.
 -- Assumes nothing.
-use borrow.Author.Rules.{rules}
 use mathlib.Core.Path.{refl, sym, ◌∙◌}
 use native.Mathlib.Omega.{arith}
-use borrow.Author.Tests.{not-true, not-false}
 use Rattle.optimize.specs.View.{view}
 use Rattle.rules.specs.Fold.{stays}
 use Rattle.optimize.proofs.Finishes.{finish-quiet, ite-bit, ite-word, ite-other, ite-by}

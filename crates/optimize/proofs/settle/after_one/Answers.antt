@@ -1,6 +1,5 @@
 -- What fold_one says of the operand is recorded.
 -- Assumes nothing.
-use borrow.Author.Rules.{rules}
 use mathlib.Core.Path.{◌∙◌}
 use Rattle.optimize.proofs.Finishes.{one_is}
 use native.Mathlib.Omega.{arith}

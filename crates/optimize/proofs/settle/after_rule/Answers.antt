@@ -1,6 +1,5 @@
 -- What fold_two says of the operands is recorded, or asked about.
 -- Assumes nothing.
-use borrow.Author.Rules.{rules}
 use mathlib.Core.Path.{◌∙◌}
 use Rattle.optimize.proofs.Finishes.{rule_is}
 use Rattle.optimize.specs.CallWords.{replies_in, ways_by}

@@ -1,6 +1,5 @@
 -- By what the node does with its operands: its rule's fold, or the Read's.
 -- Assumes nothing.
-use borrow.Author.Rules.{rules}
 use mathlib.Core.Path.{◌∙◌}
 use Rattle.optimize.proofs.Finishes.{two-folds, two_reads}
 use Rattle.optimize.proofs.settle.after_two.Goals as goal

@@ -1,8 +1,6 @@
 -- A folded node is settled; one that stays is asked about under minimise, as a bit or not at all.
 -- Assumes nothing.
-use borrow.Author.Rules.{rules}
 use mathlib.Core.Path.{sym, ◌∙◌}
-use borrow.Author.Tests.{not-true, not-false}
 use Rattle.optimize.specs.View.{view, fold_is}
 use Rattle.optimize.specs.Process.{bit_of}
 use native.Mathlib.Omega.{arith}

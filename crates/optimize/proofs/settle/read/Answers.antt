@@ -1,6 +1,5 @@
 -- No constant address: the Read stays. Else the search decides, with its counts.
 -- Assumes nothing.
-use borrow.Author.Rules.{rules}
 use native.Mathlib.Omega.{arith}
 use Rattle.rules.specs.Memory.{fold_found, passed_by}
 use Rattle.optimize.specs.Folding.{value_is}

@@ -1,6 +1,5 @@
 -- A node stays, is swapped, or a new constant is made for it.
 -- Assumes nothing.
-use borrow.Author.Rules.{rules}
 use Rattle.optimize.proofs.Steps.{settled-stays, settled_swap, settled_make}
 use Rattle.optimize.specs.Counters.{walk_in, one_made}
 use Rattle.optimize.proofs.CounterLaws.{stands, still-goes}

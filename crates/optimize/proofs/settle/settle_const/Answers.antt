@@ -1,6 +1,5 @@
 -- What fold_const says of the row is recorded.
 -- Assumes nothing.
-use borrow.Author.Rules.{rules}
 use mathlib.Core.Path.{◌∙◌}
 use native.Mathlib.Omega.{arith}
 use Rattle.optimize.proofs.settle.settle_const.Goals as goal

@@ -1,6 +1,5 @@
 -- What the questions gave is recorded, unless the last was refused.
 -- Assumes nothing.
-use borrow.Author.Rules.{rules}
 use mathlib.Core.Path.{sym, ◌∙◌}
 use Rattle.optimize.proofs.Asks.{settled-stop, settled-goes}
 use Rattle.optimize.proofs.settle.settle_solved.Goals as goal

@@ -1,6 +1,5 @@
 -- A question is the rules' question: refused at a reply that it cannot have, else kept with its reply.
 -- Assumes nothing.
-use borrow.Author.Rules.{rules}
 use native.Mathlib.Omega.{arith}
 use Rattle.optimize.proofs.Steps.{ask-refused, ask-done}
 use mathlib.Core.Path.{ap, ◌∙◌}

@@ -1,6 +1,5 @@
 -- A yes gives the fold, any other reply leaves the node as it stays.
 -- Assumes nothing.
-use borrow.Author.Rules.{rules}
 use Rattle.optimize.specs.View.{fold_is}
 use Rattle.optimize.proofs.Asks.{yes_in, no_in}
 use Rattle.optimize.proofs.smt_solver.ask_or.Goals as goal

@@ -1,6 +1,5 @@
 -- The refusal that the counters hold, or the reply.
 -- Assumes nothing.
-use borrow.Author.Rules.{rules}
 use mathlib.Core.Path.{sym, ◌∙◌}
 use Rattle.optimize.proofs.Asks.{asked-of-refused, asked-of-reply}
 use Rattle.optimize.proofs.smt_solver.asked_in.Goals as goal

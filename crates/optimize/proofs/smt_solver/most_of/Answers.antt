@@ -1,6 +1,5 @@
 -- Question 4 takes a 2, any other a 1 at most.
 -- Assumes nothing.
-use borrow.Author.Rules.{rules}
 use native.Mathlib.Omega.{arith}
 use borrow.Author.Tests.{eq-eqb, ne_eqb}
 use Rattle.optimize.proofs.smt_solver.most_of.Goals as goal

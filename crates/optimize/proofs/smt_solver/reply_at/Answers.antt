@@ -1,6 +1,5 @@
 -- The first reply left, or 0.
 -- Assumes nothing.
-use borrow.Author.Rules.{rules}
 use native.Mathlib.Omega.{arith}
 use Rattle.optimize.proofs.Steps.{first_of, first-none}
 use Rattle.optimize.proofs.smt_solver.reply_at.Goals as goal

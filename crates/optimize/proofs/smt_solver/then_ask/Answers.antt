@@ -1,9 +1,7 @@
 -- A refusal or a yes ends the asking; else one more question is put.
 -- Assumes nothing.
-use borrow.Author.Rules.{rules}
 use mathlib.Core.Path.{refl, sym, ◌∙◌}
 use native.Mathlib.Omega.{arith}
-use borrow.Author.Tests.{not-true, not-false}
 use lib.ListN.{length}
 use Rattle.optimize.specs.View.{fold_is}
 use Rattle.optimize.proofs.Asks.{stop_in, over-in, goes_in}

@@ -1,6 +1,5 @@
 -- One more reply is used, if one was left.
 -- Assumes nothing.
-use borrow.Author.Rules.{rules}
 use native.Mathlib.Omega.{arith}
 use Rattle.optimize.proofs.Steps.{rest_of, rest-none}
 use Rattle.optimize.proofs.smt_solver.used_then.Goals as goal

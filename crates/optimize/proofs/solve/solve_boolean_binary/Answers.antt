@@ -1,6 +1,5 @@
 -- What the two questions gave is recorded.
 -- Assumes nothing.
-use borrow.Author.Rules.{rules}
 use mathlib.Core.Path.{ap, ◌∙◌}
 use native.Mathlib.Omega.{arith}
 use Rattle.optimize.specs.Process.{settle_then}

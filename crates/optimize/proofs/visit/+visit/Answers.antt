@@ -31,7 +31,6 @@ use Rattle.optimize.specs.Process.{visit_of}
 use Rattle.optimize.specs.View.{view, Meets}
 use Rattle.optimize.specs.View.{view}
 use Rattle.rules.specs.Visit.{left, right, undecided}
-use borrow.Author.Rules.{rules}
 use mathlib.Core.Bool.{false}
 use mathlib.Core.List.{[]}
 use mathlib.Core.Path.{ap, refl, sym, ◌∙◌}

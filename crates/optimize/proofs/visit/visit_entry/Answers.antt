@@ -1,6 +1,5 @@
 -- A fresh entry is processed, any other visited, over counters that hold the walk.
 -- Assumes nothing.
-use borrow.Author.Rules.{rules}
 use native.Mathlib.Omega.{arith}
 use Rattle.optimize.specs.View.{view, Meets}
 use Rattle.optimize.specs.Process.{visit_of, process_of}

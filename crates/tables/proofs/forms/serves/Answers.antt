@@ -1,6 +1,5 @@
 -- `serves` asks for neither code 20 nor 22.
 -- Assumes nothing.
-use borrow.Author.Rules.{rules}
 use mathlib.Core.Path.{refl, sym, ap, ap₂, ◌∙◌}
 use mathlib.Core.Bool.{Bool, not, ◌||◌, ◌&&◌}
 use Prim.Native.Nat.{ℕ}

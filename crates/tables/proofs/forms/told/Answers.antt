@@ -1,6 +1,5 @@
 -- `told` tells the first test that does not hold.
 -- Assumes nothing.
-use borrow.Author.Tests.{not-true, not-false}
 use Rattle.tables.proofs.forms.told.Goals as goal
 
 pub returns-then-not-three : goal.returns-then-not-three

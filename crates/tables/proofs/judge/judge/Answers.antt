@@ -1,6 +1,5 @@
 -- `judge` goes through the stages of a call before its walk, and stops at the first that refuses.
 -- Assumes nothing.
-use borrow.Author.Rules.{rules}
 use Prim.Native.Nat.{ℕ}
 use mathlib.Core.Path.{◌≡◌, sym, ap, ◌∙◌}
 use mathlib.Core.List.{List}

@@ -1,6 +1,5 @@
 -- `judge_cut` is `check`: the first refusal of nodes, sequentials, initial bads and sequential bads.
 -- Assumes nothing.
-use borrow.Author.Rules.{rules}
 use mathlib.Core.Path.{sym, ap, ◌∙◌}
 use mathlib.Core.List.{[]}
 use Rattle.rules.specs.Check.{check, check_nodes, check_sequentials, check_bads}

@@ -1,6 +1,5 @@
 -- `judge_table` cuts the words, and then judges nodes and lists.
 -- Assumes nothing.
-use borrow.Author.Rules.{rules}
 use mathlib.Core.Path.{sym, ap, ◌∙◌}
 use Rattle.tables.specs.Refusals.{refusal_of}
 use Rattle.tables.specs.SectionAnswers.{cut_of}

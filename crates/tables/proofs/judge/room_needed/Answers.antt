@@ -1,6 +1,5 @@
 -- `room_needed` is the room rule over counts of 32 bits.
 -- Assumes nothing.
-use borrow.Author.Rules.{rules}
 use native.Mathlib.Omega.{arith}
 use Rattle.tables.proofs.judge.room_needed.Goals as goal
 

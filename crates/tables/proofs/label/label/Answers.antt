@@ -1,6 +1,5 @@
 -- `label` is `label_within` by the house's limits.
 -- Assumes nothing.
-use borrow.Author.Rules.{rules}
 use mathlib.Core.Path.{ap, ◌∙◌}
 use Rattle.rules.specs.Limits.{Limits}
 use Rattle.rules.specs.Label.{label_of}

@@ -1,6 +1,5 @@
 -- `nodes_in` is the count of section 1, cut alone.
 -- Assumes nothing.
-use borrow.Author.Rules.{rules}
 use mathlib.Core.Path.{sym, ap, ◌∙◌}
 use Rattle.rules.specs.Table.{row_width}
 use Rattle.tables.specs.SectionAnswers.{found_of}

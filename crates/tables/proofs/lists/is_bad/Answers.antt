@@ -1,6 +1,5 @@
 -- `is_bad` is rule 6 of a bad entry.
 -- Assumes nothing.
-use borrow.Author.Rules.{rules}
 use mathlib.Core.Path.{◌∙◌}
 use Rattle.tables.proofs.ListLaws.{bad-entry}
 use Rattle.tables.proofs.lists.is_bad.Goals as goal

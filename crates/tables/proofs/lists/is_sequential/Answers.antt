@@ -1,6 +1,5 @@
 -- `is_sequential` is rule 6 of a sequential.
 -- Assumes nothing.
-use borrow.Author.Rules.{rules}
 use Rattle.tables.proofs.ListLaws.{sequential-entry}
 use Rattle.tables.proofs.lists.is_sequential.Goals as goal
 

@@ -1,13 +1,10 @@
 -- `judge_bads` judges entry after entry: what is left to judge, from the place on, is what there was to judge.
 -- Assumes nothing.
-use borrow.Author.Rules.{rules}
-use Prim.Native.Nat.{ℕ, ◌-◌, ◌≤◌}
-use mathlib.Core.Path.{◌≡◌, refl, sym, ap, ◌∙◌}
+use Prim.Native.Nat.{ℕ}
+use mathlib.Core.Path.{refl, sym, ap, ◌∙◌}
 use native.Mathlib.Omega.{arith}
-use borrow.Author.Tests.{not-true, not-false}
-use lib.ListN.{drop}
 use Rattle.rules.specs.Lists.{all_true}
-use Rattle.rules.specs.Check.{bad_entry, check_bads}
+use Rattle.rules.specs.Check.{bad_entry}
 use Rattle.tables.specs.SectionAnswers.{words_in}
 use Rattle.tables.specs.Judging.{table_in}
 use Rattle.tables.proofs.ListLaws.{list_count, list_entry, list_inside, bads_pass, bads-stop, bads_end}

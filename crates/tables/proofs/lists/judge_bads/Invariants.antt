@@ -1,16 +1,11 @@
 -- `judge_bads` judges entry after entry: what is left to judge, from the place on, is what there was to judge.
 -- Assumes nothing.
-use borrow.Author.Rules.{rules}
-use Prim.Native.Nat.{ℕ, ◌-◌, ◌≤◌}
-use mathlib.Core.Path.{◌≡◌, refl, sym, ap, ◌∙◌}
-use native.Mathlib.Omega.{arith}
-use borrow.Author.Tests.{not-true, not-false}
+use Prim.Native.Nat.{◌-◌, ◌≤◌}
+use mathlib.Core.Path.{◌≡◌}
 use lib.ListN.{drop}
-use Rattle.rules.specs.Lists.{all_true}
-use Rattle.rules.specs.Check.{bad_entry, check_bads}
+use Rattle.rules.specs.Check.{check_bads}
 use Rattle.tables.specs.SectionAnswers.{words_in}
 use Rattle.tables.specs.Judging.{table_in}
-use Rattle.tables.proofs.ListLaws.{list_count, list_entry, list_inside, bads_pass, bads-stop, bads_end}
 use Rattle.tables.proofs.lists.judge_bads.Given as goal
 
 abbrev pub invariant-loop-place : goal.invariant-loop-place

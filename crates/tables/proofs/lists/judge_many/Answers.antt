@@ -1,6 +1,5 @@
 -- `judge_many` lends marks that are all 0.
 -- Assumes nothing.
-use borrow.Author.Rules.{rules}
 use Rattle.tables.proofs.ListLaws.{zeros}
 use Rattle.tables.proofs.lists.judge_many.Goals as goal
 

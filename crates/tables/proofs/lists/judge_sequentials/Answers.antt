@@ -1,6 +1,5 @@
 -- `judge_sequentials` lends as many marks as the table needs, all 0.
 -- Assumes nothing.
-use borrow.Author.Rules.{rules}
 use Rattle.tables.proofs.ListLaws.{zeros}
 use Rattle.tables.proofs.lists.judge_sequentials.Goals as goal
 

@@ -1,6 +1,5 @@
 -- `mark` sets a mark that is there; where there is none, setting it changes nothing.
 -- Assumes nothing.
-use borrow.Author.Rules.{rules}
 use mathlib.Core.Path.{sym}
 use lib.Seq.{set_out}
 use Rattle.tables.proofs.lists.mark.Goals as goal

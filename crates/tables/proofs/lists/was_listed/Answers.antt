@@ -1,6 +1,5 @@
 -- `was_listed` reads the state's mark, and looks at the entries where there is none.
 -- Assumes nothing.
-use borrow.Author.Rules.{rules}
 use Rattle.tables.proofs.lists.was_listed.Goals as goal
 
 pub returns-then-state-seen : goal.returns-then-state-seen

@@ -1,6 +1,5 @@
 -- `tables::names::byte` meets its contract: inside the slice by `wide`, past its end by the default of `get_or`.
 -- Assumes nothing.
-use borrow.Author.Rules.{rules}
 use native.Mathlib.Omega.{arith}
 use mathlib.Core.Path.{sym}
 use lib.ListN.{get_or-eq_default}

@@ -4,10 +4,9 @@
 use Prim.Native.Nat.{ℕ, ◌+◌, ◌*◌, ◌≤◌, ◌<◌}
 use mathlib.Core.Path.{◌≡◌, sym, ap, ◌∙◌}
 use native.Mathlib.Omega.{arith}
-use borrow.Author.Rules.{rules}
 use lib.ListN.{length, drop}
 use Rattle.tables.specs.LimitAnswers.{limits_is}
-use Rattle.tables.specs.NameAnswers.{names_count, read_of}
+use Rattle.tables.specs.NameAnswers.{read_of}
 use Rattle.tables.proofs.NameLaws.{judged, count_said, count_missing, count-over, count-within, judged_end, judged_leftover, judged-refused, judged-name, read-inside}
 use Rattle.tables.proofs.names.cut_names.Goals as goal
 use Rattle.tables.proofs.names.cut_names.Goals.{In-Name}

@@ -1,14 +1,12 @@
 -- `tables::names::cut_names` meets its contract. The loop's invariant: the place is within the bytes, and what the names that are left come to
 -- is what the bytes come to; each turn by the law of one name. The measure is how many names are left.
 -- Assumes nothing.
-use Prim.Native.Nat.{ℕ, ◌+◌, ◌*◌, ◌≤◌, ◌<◌}
-use mathlib.Core.Path.{◌≡◌, sym, ap, ◌∙◌}
-use native.Mathlib.Omega.{arith}
-use borrow.Author.Rules.{rules}
+use Prim.Native.Nat.{◌≤◌}
+use mathlib.Core.Path.{◌≡◌}
 use lib.ListN.{length, drop}
 use Rattle.tables.specs.LimitAnswers.{limits_is}
-use Rattle.tables.specs.NameAnswers.{names_count, read_of}
-use Rattle.tables.proofs.NameLaws.{judged, count_said, count_missing, count-over, count-within, judged_end, judged_leftover, judged-refused, judged-name, read-inside}
+use Rattle.tables.specs.NameAnswers.{names_count}
+use Rattle.tables.proofs.NameLaws.{judged}
 use Rattle.tables.proofs.names.cut_names.Given as goal
 
 abbrev pub invariant-loop-left : goal.invariant-loop-left

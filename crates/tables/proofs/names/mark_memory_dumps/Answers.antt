@@ -1,7 +1,6 @@
 -- `tables::names::mark_memory_dumps` meets its contract: over cleared marks, by `mark_names` where the bytes are accepted, and with no mark set elsewhere.
 -- Assumes nothing.
 use mathlib.Core.Path.{refl, sym, ap, ◌∙◌}
-use borrow.Author.Rules.{rules}
 use Rattle.rules.specs.Limits.{Limits, house}
 use Rattle.tables.specs.NameAnswers.{count_of, names_count}
 use Rattle.tables.proofs.ListLaws.{zeros}

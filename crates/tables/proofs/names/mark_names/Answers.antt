@@ -4,13 +4,12 @@
 use Prim.Native.Nat.{ℕ, suc, ◌+◌, ◌-◌, ◌≤◌, ◌<◌}
 use mathlib.Core.Path.{◌≡◌, sym, ap, ap₂, ◌∙◌}
 use native.Mathlib.Omega.{arith}
-use borrow.Author.Rules.{rules}
 use lib.ListN.{length, length-set, get_or, take, drop}
 use Rattle.btor.specs.Operators.{bit}
 use Rattle.rules.specs.Limits.{house}
 use Rattle.rules.specs.Names.{length_place, starts_with, memory_dump}
 use Rattle.tables.specs.NameAnswers.{dump_mark}
-use Rattle.tables.proofs.NameLaws.{Marked, marked_first, marked_next, marked_last, mark_name, count_limit, place_after, place_here, counted_inside}
+use Rattle.tables.proofs.NameLaws.{marked_first, marked_next, marked_last, mark_name, count_limit, place_after, place_here, counted_inside}
 use Rattle.tables.proofs.names.mark_names.Goals as goal
 use Rattle.tables.proofs.names.mark_names.Goals.{In-loop-k}
 

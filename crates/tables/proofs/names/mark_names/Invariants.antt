@@ -1,16 +1,12 @@
 -- `tables::names::mark_names` meets its contract. The loop's invariant: the place is that of name k's length byte, the marks below k are right,
 -- and the others still 0. The measure is how many names are left.
 -- Assumes nothing.
-use Prim.Native.Nat.{ℕ, suc, ◌+◌, ◌-◌, ◌≤◌, ◌<◌}
-use mathlib.Core.Path.{◌≡◌, sym, ap, ap₂, ◌∙◌}
-use native.Mathlib.Omega.{arith}
-use borrow.Author.Rules.{rules}
-use lib.ListN.{length, length-set, get_or, take, drop}
-use Rattle.btor.specs.Operators.{bit}
+use Prim.Native.Nat.{◌+◌, ◌-◌, ◌≤◌, ◌<◌}
+use mathlib.Core.Path.{◌≡◌}
+use lib.ListN.{length}
 use Rattle.rules.specs.Limits.{house}
-use Rattle.rules.specs.Names.{length_place, starts_with, memory_dump}
-use Rattle.tables.specs.NameAnswers.{dump_mark}
-use Rattle.tables.proofs.NameLaws.{Marked, marked_first, marked_next, marked_last, mark_name, count_limit, place_after, place_here, counted_inside}
+use Rattle.rules.specs.Names.{length_place}
+use Rattle.tables.proofs.NameLaws.{Marked}
 use Rattle.tables.proofs.names.mark_names.Given as goal
 
 abbrev pub invariant-loop-k : goal.invariant-loop-k

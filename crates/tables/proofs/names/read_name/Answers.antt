@@ -3,7 +3,6 @@
 use Prim.Native.Nat.{ℕ, ◌+◌}
 use mathlib.Core.Path.{sym, ap, ◌∙◌}
 use native.Mathlib.Omega.{arith}
-use borrow.Author.Rules.{rules}
 use Rattle.rules.specs.Refusal.{done}
 use Rattle.tables.specs.LimitAnswers.{limits_is}
 use Rattle.tables.proofs.NameLaws.{read_missing, read-over, read_short, read_whole}

@@ -1,12 +1,9 @@
 -- `tables::names::skip_names` meets its contract. The loop's invariant: from the place that is reached, the names that are left to skip lead to
 -- the same place as all from the first. The measure is how many are left.
 -- Assumes nothing.
-use Prim.Native.Nat.{ℕ, ◌+◌, ◌-◌, ◌*◌, ◌≤◌}
-use mathlib.Core.Path.{◌≡◌, sym, ap, ap₂, ◌∙◌}
-use native.Mathlib.Omega.{arith}
-use native.Mathlib.Nat.{sub-zero}
+use Prim.Native.Nat.{◌+◌, ◌-◌, ◌*◌, ◌≤◌}
+use mathlib.Core.Path.{◌≡◌}
 use Rattle.rules.specs.Names.{length_place}
-use Rattle.tables.proofs.NameLaws.{place_here, place-next}
 use Rattle.tables.proofs.names.skip_names.Given as goal
 
 abbrev pub invariant-loop-i : goal.invariant-loop-i

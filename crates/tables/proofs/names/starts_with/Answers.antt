@@ -1,10 +1,7 @@
 -- `tables::names::starts_with` meets its contract. The loop's invariant: both go on past the place, and the rests decide what the wholes do.
 -- Assumes nothing.
-use Prim.Native.Nat.{◌≤◌, ◌-◌}
-use mathlib.Core.Path.{◌≡◌, refl, sym, ◌∙◌}
+use mathlib.Core.Path.{refl, sym, ◌∙◌}
 use native.Mathlib.Omega.{arith}
-use lib.ListN.{length, drop}
-use Rattle.rules.specs.Names.{starts_with}
 use Rattle.tables.proofs.NameLaws.{prefix_all, prefix_longer, prefix_differs, prefix_agrees}
 use Rattle.tables.proofs.names.starts_with.Goals as goal
 

@@ -1,8 +1,6 @@
 -- `fits_sort` compares with all ones of the sort.
 -- Assumes nothing.
-use borrow.Author.Rules.{rules}
-use mathlib.Core.Path.{◌≡◌, sym, ap, ◌∙◌}
-use Rattle.btor.specs.Sorts.{width_of}
+use mathlib.Core.Path.{sym, ◌∙◌}
 use Rattle.tables.proofs.NodeLaws.{fits-known, fits-unknown}
 use Rattle.tables.proofs.node.fits_sort.Goals as goal
 

@@ -1,7 +1,6 @@
 -- `known_sort` asks whether the code names a sort.
 -- Assumes nothing.
-use borrow.Author.Rules.{rules}
-use mathlib.Core.Path.{◌≡◌, sym, ap, ◌∙◌}
+use mathlib.Core.Path.{sym, ap, ◌∙◌}
 use Rattle.rules.specs.Check.{is_known}
 use Rattle.tables.proofs.node.known_sort.Goals as goal
 

@@ -6,7 +6,7 @@ use native.Mathlib.Omega.{arith}
 use Rattle.tables.specs.NodeAnswers.{row_is}
 use Rattle.tables.proofs.NodeLaws.{not_known}
 use Rattle.tables.proofs.JudgeLaws.{node_checked, fails_3}
-use Rattle.tables.proofs.FormLaws.{word_low, logic_code, rule3-unknown}
+use Rattle.tables.proofs.FormLaws.{logic_code, rule3-unknown}
 use Rattle.tables.proofs.nodes.judge_node.Goals as goal
 
 pub judge_two-requires-in-4-to-11 : goal.judge_two-requires-in-4-to-11

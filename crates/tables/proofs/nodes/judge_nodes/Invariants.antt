@@ -1,14 +1,10 @@
 -- `judge_nodes` judges node after node: what is left to judge, from the node on, is what there was to judge.
 -- Assumes nothing.
-use borrow.Author.Rules.{rules}
-use Prim.Native.Nat.{ℕ, ◌-◌, ◌≤◌}
-use mathlib.Core.Path.{◌≡◌, refl, sym, ap, ◌∙◌}
-use native.Mathlib.Omega.{arith}
+use Prim.Native.Nat.{◌-◌, ◌≤◌}
+use mathlib.Core.Path.{◌≡◌}
 use lib.ListN.{drop}
 use Rattle.rules.specs.Check.{check_nodes}
-use Rattle.tables.specs.Refusals.{refusal_of}
-use Rattle.tables.specs.Judging.{judged_of, rows_in, table_in}
-use Rattle.tables.proofs.JudgeLaws.{rows-count, nodes-pass, nodes-stop, nodes_end}
+use Rattle.tables.specs.Judging.{rows_in, table_in}
 use Rattle.tables.proofs.nodes.judge_nodes.Given as goal
 
 abbrev pub invariant-loop-node : goal.invariant-loop-node

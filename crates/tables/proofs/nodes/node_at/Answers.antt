@@ -1,7 +1,6 @@
 -- `node_at` is the table's node, or what stands past the table.
 -- Assumes nothing.
-use borrow.Author.Rules.{rules}
-use mathlib.Core.Path.{◌≡◌, sym, ap, ◌∙◌}
+use mathlib.Core.Path.{sym, ap, ◌∙◌}
 use Rattle.rules.specs.Table.{decode}
 use Rattle.tables.proofs.JudgeLaws.{node_in, node-past, words_enough}
 use Rattle.tables.proofs.nodes.node_at.Goals as goal

@@ -1,6 +1,5 @@
 -- `row_at` reads the words of a row one by one.
 -- Assumes nothing.
-use borrow.Author.Rules.{rules}
 use Rattle.tables.proofs.rows.row_at.Goals as goal
 
 pub returns : goal.returns

@@ -1,6 +1,5 @@
 -- `cut_sections` is `cut_six`, and nothing is left over.
 -- Assumes nothing.
-use borrow.Author.Rules.{rules}
 use mathlib.Core.Path.{sym, ap, ◌∙◌}
 use Rattle.rules.specs.Sections.{cut}
 use Rattle.tables.specs.SectionAnswers.{six_of}

@@ -1,6 +1,5 @@
 -- `cut_six` cuts the six sections one after the other: each is `cut_section` of the words after the one before it.
 -- Assumes nothing.
-use borrow.Author.Rules.{rules}
 use mathlib.Core.Path.{sym, ap, ◌∙◌}
 use Rattle.rules.specs.Table.{row_width}
 use Rattle.rules.specs.Sections.{cut_six}

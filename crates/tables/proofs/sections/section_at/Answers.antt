@@ -1,7 +1,5 @@
 -- `section_at` cuts one section: what it answers is `cut_section` of the words from its place on.
 -- Assumes nothing.
-use borrow.Author.Rules.{rules}
-use Prim.Native.Nat.{ℕ}
 use mathlib.Core.Path.{refl, sym}
 use native.Mathlib.Omega.{arith}
 use native.Mathlib.Nat.{mul-le-mul}

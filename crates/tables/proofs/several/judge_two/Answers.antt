@@ -1,6 +1,5 @@
 -- `judge_two` tells rules 3, 4 and 5 of a node with two operands: where 3 and 4 hold, they are nodes before it, and so those of the words.
 -- Assumes nothing.
-use borrow.Author.Rules.{rules}
 use mathlib.Core.Path.{◌≡◌, ◌∙◌}
 use Rattle.rules.specs.Lists.{all_true}
 use Rattle.rules.specs.Table.{decode}

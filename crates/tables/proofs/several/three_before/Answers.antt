@@ -1,6 +1,5 @@
 -- `three_before` is rule 4, operand by operand.
 -- Assumes nothing.
-use borrow.Author.Rules.{rules}
 use mathlib.Core.Path.{ap, ◌∙◌}
 use mathlib.Core.Bool.{Bool, ◌&&◌}
 use Rattle.tables.proofs.ToldLaws.{every-third}

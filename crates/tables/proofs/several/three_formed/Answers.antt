@@ -1,6 +1,5 @@
 -- `three_formed` is rule 3, test by test.
 -- Assumes nothing.
-use borrow.Author.Rules.{rules}
 use Rattle.tables.proofs.several.three_formed.Goals as goal
 
 pub returns : goal.returns

@@ -1,6 +1,5 @@
 -- `three_serve` asks of each operand whether it may be one.
 -- Assumes nothing.
-use borrow.Author.Rules.{rules}
 use mathlib.Core.Path.{ap₂, ◌∙◌}
 use mathlib.Core.Bool.{◌&&◌}
 use Rattle.tables.proofs.ToldLaws.{every-third}

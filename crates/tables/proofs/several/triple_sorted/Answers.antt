@@ -1,6 +1,5 @@
 -- `triple_sorted` asks for the sorts of each case as the rules' table of kinds does.
 -- Assumes nothing.
-use borrow.Author.Rules.{rules}
 use mathlib.Core.Path.{subst}
 use Rattle.tables.specs.NodeAnswers.{row_is}
 use Rattle.tables.specs.FormAnswers.{OfTriple}

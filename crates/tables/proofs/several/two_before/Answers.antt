@@ -1,6 +1,5 @@
 -- `two_before` is rule 4, operand by operand.
 -- Assumes nothing.
-use borrow.Author.Rules.{rules}
 use mathlib.Core.Bool.{and-true}
 use Rattle.tables.proofs.several.two_before.Goals as goal
 

@@ -1,6 +1,5 @@
 -- `two_formed` is rule 3, test by test.
 -- Assumes nothing.
-use borrow.Author.Rules.{rules}
 use mathlib.Core.Bool.{and-true}
 use Rattle.tables.proofs.several.two_formed.Goals as goal
 

@@ -1,6 +1,5 @@
 -- `two_serve` asks of each operand whether it may be one.
 -- Assumes nothing.
-use borrow.Author.Rules.{rules}
 use mathlib.Core.Bool.{and-true}
 use Rattle.tables.proofs.several.two_serve.Goals as goal
 

@@ -1,6 +1,5 @@
 -- `judge_bad` tells rules 3, 4 and 5 of a Bad: where 3 and 4 hold, the operand is a node before it, and so one of the words.
 -- Assumes nothing.
-use borrow.Author.Rules.{rules}
 use mathlib.Core.Path.{◌≡◌, sym, ◌∙◌}
 use mathlib.Core.Bool.{and-true}
 use mathlib.Core.List.{[], ◌∷◌}

@@ -1,6 +1,5 @@
 -- `judge_const` tells rules 3 and 5 of a Const, test by test.
 -- Assumes nothing.
-use borrow.Author.Rules.{rules}
 use mathlib.Core.Path.{◌≡◌, ◌∙◌}
 use Rattle.rules.specs.Lists.{all_true}
 use Rattle.rules.specs.Table.{decode}

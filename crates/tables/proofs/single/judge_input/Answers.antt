@@ -1,6 +1,5 @@
 -- `judge_input` tells rule 3 of an Input, test by test.
 -- Assumes nothing.
-use borrow.Author.Rules.{rules}
 use mathlib.Core.Path.{◌≡◌, ◌∙◌}
 use mathlib.Core.Bool.{true}
 use Rattle.rules.specs.Lists.{all_true}

@@ -1,6 +1,5 @@
 -- `judge_state` tells rules 3, 4 and 5 of a State, without an init and with one, which is a node before it where 3 and 4 hold.
 -- Assumes nothing.
-use borrow.Author.Rules.{rules}
 use mathlib.Core.Path.{◌≡◌, sym, ◌∙◌}
 use mathlib.Core.Bool.{true, false, and-true}
 use mathlib.Core.List.{[], ◌∷◌}

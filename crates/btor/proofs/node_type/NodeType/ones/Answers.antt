@@ -1,6 +1,6 @@
 -- `NodeType::ones` is all ones of the width: a word of ones shifted down, and 0 where the width is 0.
 -- Assumes nothing.
-use Rattle.std.proofs.Common.{◌≡◌, ℕ, ◌-◌, ◌^◌, sym, ap, ◌∙◌, arith, rules}
+use Rattle.std.proofs.Common.{◌≡◌, ℕ, ◌-◌, ◌^◌, sym, ap, ◌∙◌, arith}
 use Rattle.btor.specs.Sorts.{width_of}
 use Rattle.btor.proofs.Sorts.{width_le, ones_shifted}
 use Rattle.btor.proofs.node_type.NodeType.ones.Goals as goal

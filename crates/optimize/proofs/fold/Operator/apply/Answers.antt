@@ -1,6 +1,5 @@
 -- `apply` calls the operator that is named; one arm for each. Six are the same in both readings.
 -- Assumes nothing.
-use borrow.Author.Rules.{rules}
 use Rattle.btor.specs.Operators.{compute}
 use Rattle.optimize.proofs.fold.Operator.apply.Goals as goal
 

@@ -1,6 +1,5 @@
 -- `NodeKind::from_code` finds the kind of a code: an arm for each, and the last where it is none of them.
 -- Assumes nothing.
-use borrow.Author.Rules.{rules}
 use native.Mathlib.Nat.{lt_irrefl, lt_of_lt_of_le}
 use Rattle.tables.proofs.NodeLaws.{not_known, rises}
 use Rattle.tables.proofs.node.NodeKind.from_code.Goals as goal
