@@ -117,7 +117,7 @@ module _ (t : List Node) (Q : ℕ → Type 0) (R : St → St → Type 0) where
 
       unary_along : (σ : St) (nd : Node) (fold : Option ℕ → Fold) → ((c : Option ℕ) → MayFold k (fold c)) → Goes σ (unary t ways vis σ k nd fold)
       unfolding unary visit1
-      unary_along σ nd fold i = next σ (visit1 vis σ k nd) _ (next σ (vis σ nd.a) _ (vis-along σ nd.a) λ p. s.still p.0 _ refl) λ p. settle_along p.0 p.0 _ refl (i _)
+      unary_along σ nd g i = next σ (visit1 vis σ k nd) _ (next σ (vis σ nd.a) _ (vis-along σ nd.a) λ p. s.still p.0 _ refl) λ p. settle_along p.0 p.0 _ refl (i _)
 
       visit2_along : (σ : St) (nd : Node) → Goes σ (visit2 vis σ k nd)
       unfolding visit2

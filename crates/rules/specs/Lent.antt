@@ -1,6 +1,6 @@
 -- A lent slice or array at a function's two moments, so that a definition takes the parameter of a contract itself.
 --     Lent      a parameter behind a `&`, as an `ensures` has it             was         what it holds
---     LentMut   a parameter behind a `&mut`, as an `ensures` has it          old, new    what it holds at entry and at exit
+--     LentMut   a parameter behind a `&mut`, as an `ensures` has it          old, ends   what it holds at entry and at exit
 -- Assumes nothing.
 use Rattle.std.specs.Prelude.{ℕ, List}
 use Rattle.std.specs.Borrow.{Bor, MutBor}
@@ -18,5 +18,5 @@ LentMut = Both (MutBor (List ℕ)) (MutBor (List ℕ))
 abbrev pub old : LentMut → List ℕ
 old x = x.entry.now
 
-abbrev pub new : LentMut → List ℕ
-new x = x.exit.now
+abbrev pub ends : LentMut → List ℕ
+ends x = x.exit.now
