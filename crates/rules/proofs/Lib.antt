@@ -46,3 +46,4 @@ pub mod KeptCases
 pub mod OwnSort
 pub mod OwnSortCases
 pub mod Numbered
+pub mod Standard

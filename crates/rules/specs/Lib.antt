@@ -32,3 +32,4 @@ pub mod Numbered
 pub mod Worked
 pub mod KeptState
 pub mod OwnSort
+pub mod Standard
