@@ -1,4 +1,4 @@
--- The standard's reading (docs/FORMAT.md, "Reads").
+-- The standard's reading of values (BTOR2, SMT-LIB), which no mode folds by yet; and the bound on the writes looked at.
 --     IsSmtLib, ValuesAgree, ValuesOnly      each node's value is what SMT-LIB's own operator gives of its operands' values, and no other is
 --     LookedOfCall               the bound on the writes looked at, in every mode
 --     SmtLibCanFail              values of which IsSmtLib holds, and others of which it fails
@@ -44,7 +44,7 @@ SmtLibOf rows v own nd r = IsSmtLib (width (rows nd.a).sort) nd.kind v own nd r
 abbrev pub SmtLibAt : List Node → (ℕ → Value) → (ℕ → Value) → ℕ → Type 0
 SmtLibAt t α v k = SmtLibOf (node_at t) v (α k) (node_at t k) (v k)
 
--- "In the standard mode every operator is SMT-LIB's, on all operands"; "each node's value is the one that SMT-LIB's operators give it"
+-- in the standard's reading each node's value is the one that SMT-LIB's operators give it, on all operands
 unfoldable pub ValuesAgree : Type 0
 ValuesAgree =
     (t : List Node) (α : ℕ → Value) → AllLegal t → Assigns t α
