@@ -21,4 +21,4 @@ returns-in-Done c = ap answered (sym c.in-Done.is)
 
 pub returns-in-Refused : goal.returns-in-Refused
 returns-in-Refused c =
-    refused-answer c.in-Refused.why _ _ _ c.number.ensures c.section.ensures c.position.ensures ∙ ap answered (sym c.in-Refused.is)
+    refused-answer c.in-Refused.why _ _ _ (cc) (cc) (cc) ∙ ap answered (sym c.in-Refused.is)
