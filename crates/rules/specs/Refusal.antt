@@ -1,6 +1,6 @@
 -- Refusals and outcomes (docs/FORMAT.md, "Refusals").
 --     Refusal   its number, section and position       Out       refused, or done with something
---     _>>=_     what comes next, unless refused        first_of   the first of several refusals, in order
+--     ◌>>=◌     what comes next, unless refused        first_of   the first of several refusals, in order
 --     OfDone    what holds of an outcome that is not refused
 -- Assumes nothing.
 use Rattle.std.specs.Prelude.{ℕ, Bool, true, false, List, [], ◌∷◌}

@@ -22,9 +22,9 @@ use Rattle.rules.specs.Refusal.{Refusal, Out, refused, done, refuse, ◌>>=◌}
 use Rattle.rules.specs.Text.{most_numbers, separates, judge_token, judge_number, with_mode, numbers}
 use Rattle.rules.specs.Reader.{Reader, Token, between, within, junk, fresh, digit_after, grown, put, closed, step, feed, read_out}
 use Rattle.rules.proofs.Reader.{feed_append, reader-is}
-use Rattle.text.specs.declared.reader.Numbers.{Numbers as state·Numbers}
+use Rattle.text.specs.declared.reader.Numbers.{Numbers as StateNumbers}
 use Rattle.text.specs.declared.reader.Numbers.TheVariants.{Whole, NoNumber, TooMany}
-use Rattle.text.specs.declared.reader.Reader.{Reader as state·Reader}
+use Rattle.text.specs.declared.reader.Reader.{Reader as StateReader}
 use Rattle.text.specs.Front.{on_front}
 use Rattle.text.specs.Reading.{token_of, read_of, reader_of, fed_in, ended_in}
 
@@ -94,7 +94,7 @@ front_same zero ws = refl
 front_same (suc n) [] = refl
 front_same (suc n) (w ∷ ws) = ap (λ l. w ∷ l) (front_same n ws)
 
-pub kept_same : (read : state·Numbers) (ws : List ℕ) → on_front (read_of read ws) ws ≡ ws
+pub kept_same : (read : StateNumbers) (ws : List ℕ) → on_front (read_of read ws) ws ≡ ws
 kept_same (Whole n) ws = front_same n ws
 kept_same (NoNumber place) ws = refl
 kept_same TooMany ws = refl
@@ -182,12 +182,12 @@ pub fed_all : (r : Reader) (bs ws vs : List ℕ) (i : ℕ) → vs ≡ fed_in r (
 fed_all r bs ws vs i e h = e ∙ ap (λ l. fed_in r l ws) (take_all i bs h)
 
 -- ---- the end of the bytes: the token ends, then the mode is taken off
-pub finished : (s : state·Reader) (ws vs : List ℕ) (r q : state·Numbers) → r ≡ q → read_of r vs ≡ closed (token_of s.token) (read_of s.read ws)
+pub finished : (s : StateReader) (ws vs : List ℕ) (r q : StateNumbers) → r ≡ q → read_of r vs ≡ closed (token_of s.token) (read_of s.read ws)
     → (read_of q vs >>= with_mode) ≡ read_out (reader_of s ws)
 unfolding reader_of
 finished s ws vs r q e f = ap (λ o. o >>= with_mode) (ap (λ p. read_of p vs) (sym e) ∙ f)
 
-pub ended : (s : state·Reader) (ws : List ℕ) → on_front (closed (token_of s.token) (read_of s.read ws)) ws ≡ ended_in (reader_of s ws) ws
+pub ended : (s : StateReader) (ws : List ℕ) → on_front (closed (token_of s.token) (read_of s.read ws)) ws ≡ ended_in (reader_of s ws) ws
 unfolding reader_of
 ended s ws = refl
 
@@ -211,9 +211,9 @@ refused-stays r q (b ∷ bs) e =
     refused-stays (step r b) q bs (ap (λ o. (step (record { read = o; token = r.token }) b).read) e ∙ step-refused r.token q b)
 
 -- a text from its first byte to its last
-pub whole_text : (s t : state·Reader) (ws vs bs : List ℕ) → reader_of s ws ≡ fresh → reader_of t vs ≡ feed (reader_of s ws) bs → read_out (reader_of t vs) ≡ numbers bs
+pub whole_text : (s t : StateReader) (ws vs bs : List ℕ) → reader_of s ws ≡ fresh → reader_of t vs ≡ feed (reader_of s ws) bs → read_out (reader_of t vs) ≡ numbers bs
 whole_text s t ws vs bs e f = ap read_out (f ∙ ap (λ r. feed r bs) e) ∙ reader-is bs
 
-pub text_ended : (s t : state·Reader) (ws vs us bs : List ℕ) → reader_of s ws ≡ fresh → reader_of t vs ≡ feed (reader_of s ws) bs → vs ≡ fed_in (reader_of s ws) bs ws
+pub text_ended : (s t : StateReader) (ws vs us bs : List ℕ) → reader_of s ws ≡ fresh → reader_of t vs ≡ feed (reader_of s ws) bs → vs ≡ fed_in (reader_of s ws) bs ws
     → us ≡ ended_in (reader_of t vs) vs → us ≡ ended_in (feed fresh bs) (fed_in fresh bs ws)
 text_ended s t ws vs us bs e f g h = h ∙ ap₂ ended_in (f ∙ ap (λ r. feed r bs) e) (g ∙ ap (λ r. fed_in r bs ws) e)

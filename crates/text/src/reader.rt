@@ -3,7 +3,7 @@
 // and every other word of the array is as it was.
 ghost use Rattle.std.specs.Prelude.{◌≡◌, List, ℕ, length, take};
 ghost use Rattle.std.proofs.Math.Option.{none, some};
-ghost use Rattle.rules.specs.Text.{most_numbers, separates as Text·separates, with_mode, numbers as Text·numbers};
+ghost use Rattle.rules.specs.Text.{most_numbers, separates as text_separates, with_mode, numbers as text_numbers};
 ghost use Rattle.rules.specs.Reader as rules;
 ghost use Rattle.text.specs.Front.{on_front};
 ghost use Rattle.text.specs.Reading.{token_of, read_of, reader_of, fed_in, ended_in, answer_of, Some};
@@ -52,7 +52,7 @@ pub fn start() -> Reader
 
 // Blanks are the space and the tab, line ends the bytes 13 and 10.
 fn separates(b: u8) -> bool
-    ensures { result ≡ Text·separates b }
+    ensures { result ≡ text_separates b }
 {
     if b == 32 {
         return true;
@@ -226,7 +226,7 @@ pub fn finish(reader: Reader, numbers: &mut [u64; NUMBERS]) -> Numbers
 
 // The whole text at once.
 pub fn read_text(bytes: &[u8], numbers: &mut [u64; NUMBERS]) -> Numbers
-    ensures numbers_after { (answer_of result numbers.new ≡ Text·numbers bytes.now) × Some result }
+    ensures numbers_after { (answer_of result numbers.new ≡ text_numbers bytes.now) × Some result }
     ensures numbers_after_2 { numbers.new ≡ ended_in (rules.feed rules.fresh bytes.now) (fed_in rules.fresh bytes.now numbers.old) }
 {
     let reader = feed(start(), bytes, numbers);

@@ -6,9 +6,6 @@ use Rattle.optimize.specs.Counters.{walk_in, one_made}
 use Rattle.optimize.proofs.CounterLaws.{view-put}
 use Rattle.optimize.proofs.buffers.push.Goals as goal
 
--- NO GOAL slice-write-result-2 : tie.Need-slice-write-result-2
--- NO GOAL slice-write-result-2 c = simp length-set (omega arith)
-
 pub returns : goal.returns
 returns c =
     record {

@@ -6,15 +6,6 @@ use Rattle.optimize.proofs.SetUpLaws.{set_up_left}
 use Rattle.optimize.proofs.Entries.{zero-less}
 use Rattle.optimize.proofs.result.set_up.Goals as goal
 
--- NO GOAL slice-write-result-2 : tie.Need-slice-write-result-2
--- NO GOAL slice-write-result-2 c = simp length-set (omega arith)
-
--- NO GOAL slice-write-result-3 : tie.Need-slice-write-result-3
--- NO GOAL slice-write-result-3 c = simp length-set (omega arith)
-
--- NO GOAL slice-write-result-4 : tie.Need-slice-write-result-4
--- NO GOAL slice-write-result-4 c = simp length-set (omega arith)
-
 pub slice_bounds-clear-end : goal.slice_bounds-clear-end
 slice_bounds-clear-end c =
     omega (arith, c.requires.scratch)

@@ -5,14 +5,8 @@ use native.Mathlib.Omega.{arith}
 use Rattle.optimize.proofs.WriteLaws.{wrote_counts}
 use Rattle.optimize.proofs.result.write_counts.Goals as goal
 
--- NO GOAL slice-write-result : tie.Need-slice-write-result
--- NO GOAL slice-write-result c = omega arith
-
 pub overflow_mul-result : goal.overflow_mul-result
 overflow_mul-result c = omega arith
-
--- NO GOAL slice-write-result-2 : tie.Need-slice-write-result-2
--- NO GOAL slice-write-result-2 c = simp length-set (omega arith)
 
 pub returns : goal.returns
 returns c =

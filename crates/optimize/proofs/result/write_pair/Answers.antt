@@ -11,9 +11,6 @@ returns-then-scratch-node-lt2 c =
       upper_bound = omega arith;
     }
 
--- NO GOAL slice-write-result-2 : tie.Need-slice-write-result-2
--- NO GOAL slice-write-result-2 c = simp length-set (omega arith)
-
 pub returns : goal.returns
 returns c =
     record {

@@ -8,9 +8,6 @@ use Rattle.optimize.proofs.result.write_replacements.Goals as goal
 pub count_replaced-count-requires : goal.count_replaced-count-requires
 count_replaced-count-requires c = c.requires.0
 
--- NO GOAL slice-write-result : tie.Need-slice-write-result
--- NO GOAL slice-write-result c = omega arith
-
 pub write_pairs-requires : goal.write_pairs-requires
 write_pairs-requires c =
     (c.requires.0, simp length-set (omega arith))
