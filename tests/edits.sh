@@ -1,65 +1,35 @@
 #!/bin/sh
-# Wrong edits of large crates, those with a folder edits/, each of which the prover must refuse at the places that the edit names. A must-fail
-# edit of rt checks its crate from nothing; here a crate is proved once, and each edit is checked over its incremental folder.
-#     tests/edits.sh [FOLDER]           works in FOLDER, which is kept; a temporary one unless given
-# The libraries that these crates are built on are those of target/. Where BESIDE is set they are waited for: another run proves them from nothing,
-# and leaves a file of that name when it ends.
+# Wrong edits of crates, those in a folder edits/, each of which the prover must refuse at the places that the edit names. Of a must-fail edit rt tells
+# whether it is refused, not where. Here a crate is proved once, and each edit is checked over the work that this check kept in out/.
+#     tests/edits.sh [FOLDER [CRATE]...]           works in FOLDER, which is kept and lies outside the repository; a temporary one unless given. With
+#                                                  names of crates their edits alone
 # An edit, crates/CRATE/edits/NAME.edit, has the form of a must-fail edit, and for each place that it leaves without a proof a line
-#     refused: fn CRATE::MODULE::FUNCTION at NEED
+#     refused: fn CRATE::MODULE::FUNCTION at GOAL
 #     refused: proofs/FILE.antt at NAME
-# where the need of a function stands without its number ('returns' is what the function ensures, at any of its returns), and NAME is a law's.
+# where the goal of a function stands without its branch, its clause and its number ('returns' is what the function ensures, at any of its returns), and
+# NAME is a law's. A proof that names what the edit took away shows nothing: a place that falls for that alone makes the edit a bad one.
 set -u
 LC_ALL=C
 export LC_ALL
 cd "$(dirname "$0")/.." || exit 1
 
-# The libraries of the repository that a crate is built on, each after those that it is built on itself.
-under() { # CRATE
-    for name in $(sed -n "s/^$1://p" crates.txt); do
-        [ -d "crates/$name" ] || continue
-        (under "$name")
-        echo "$name"
-    done
-}
-
-# Brings a crate's libraries into a folder: rt takes them if nothing that they are made of has changed. They are those of target/, which another
-# run may be proving (BESIDE): a library has its stamp once it is whole. Status 1 if that run ends without one.
-bring() { # FOLDER CRATE
-    for library in $(under "$2"); do
-        [ ! -f "$1/target/stamp/$library" ] || continue
-        until [ -z "${BESIDE:-}" ] || [ -f "target/stamp/$library" ]; do
-            [ ! -f "$BESIDE" ] || [ -f "target/stamp/$library" ] || return 1
-            sleep 1
-        done
-        [ -f "target/stamp/$library" ] || continue
-        cp -R "target/rlib/$library.rlib" "$1/target/rlib/" && cp "target/stamp/$library" "$1/target/stamp/" || return 1
-    done
-}
-
-# Proves a crate as it stands, and keeps its incremental folder as it is then.
-seed() { # FOLDER CRATE
-    bring "$1" "$2" || { echo "edits: what $2 is built on was not proved"; return 1; }
+# Proves a crate as it stands; what it is built on is proved with it.
+prove() { # CRATE
     began=$(date +%s)
-    (cd "$1" && rt dev "$2") >"$work/$2.log" 2>&1
+    (cd "$work/one/crates/$1" && rt check) >"$work/$1.log" 2>&1 </dev/null
     status=$?
-    if [ "$status" -ne 0 ] || ! grep -q '^logic=proved' "$work/$2.log"; then
-        echo "edits: $2 is not proved as it stands (exit $status)"
-        tail -n 5 "$work/$2.log"
+    if [ "$status" -ne 0 ] || ! grep -q '^logic=proved' "$work/$1.log"; then
+        echo "edits: $1 is not proved as it stands (exit $status)"
+        tail -n 5 "$work/$1.log"
         return 1
     fi
-    rm -rf "$work/seed/$2"
-    mkdir -p "$work/seed" && cp -Rp "$1/target/inc/$2" "$work/seed/$2" && touch "$work/seed/$2.time" || return 1
-    echo "edits: $2 proved as it stands, $(($(date +%s) - began)) s"
+    echo "edits: $1 proved as it stands, $(($(date +%s) - began)) s"
 }
 
-# The crate and its incremental folder as they were before an edit.
+# The crate and what its check kept, as they were before an edit.
 restore() { # FOLDER CRATE
     rm -rf "$1/crates/$2"
-    cp -R "crates/$2" "$1/crates/$2"
-    find "$1/target/inc/$2" -type f -newer "$work/seed/$2.time" -exec rm -f {} +
-    (cd "$work/seed/$2" && find . -type f) | while IFS= read -r file; do
-        [ -f "$1/target/inc/$2/$file" ] || cp -p "$work/seed/$2/$file" "$1/target/inc/$2/$file"
-    done
+    cp -Rp "$work/kept/crates/$2" "$1/crates/$2"
 }
 
 # Puts NEW for the text OLD, which FILE must have exactly once.
@@ -104,38 +74,57 @@ apply() { # CRATE-FOLDER EDIT
     [ "$pairs" -gt 0 ] || echo "it has no 'old:' and 'new:' pair"
 }
 
-# The places without a proof in what the prover said. An error that only follows from another one says 'was not admitted'.
+# The functions of a crate that are proved together: the names that their attribute gives their folders of proofs.
+cycles() { # CRATE
+    cat "crates/$1/src"/*.rt | sed -n 's/^ *#\[cycle(\([a-z0-9_]*\))\].*/\1/p' | sort -u | tr '\n' ' '
+}
+
+# The places without a proof in what the prover said, with 'name: ' before one where it only misses a name. An error that follows from another one says
+# that something 'was not checked'. In the folder of functions that are proved together a goal begins with its function's name.
 places() { # CRATE LOG
-    awk -v crate="$1" '
-        function snake(s) {
-            while (match(s, /[a-z0-9][A-Z]/)) s = substr(s, 1, RSTART) "_" substr(s, RSTART + 1, 1) substr(s, RSTART + 2)
-            return tolower(s)
+    awk -v crate="$1" -v cycles="$(cycles "$1")" '
+        BEGIN {
+            n = split(cycles, each, " ")
+            for (i = 1; i <= n; i++) together["+" each[i]] = 1
         }
-        function of_function(file) { return file ~ /^proofs\/.*\/Proof(\/[A-Za-z0-9]*)?\.antt$/ }
-        function place(file,    n, part, i, name) {
-            if (!of_function(file)) return file
+        function of_function(file) { return file ~ /^proofs\/.*\/(Answers|Invariants|Proof)\.antt$/ || file ~ /^proofs\/.*\/Proof\/[A-Za-z0-9]*\.antt$/ }
+        function kind(goal) {
+            if (goal ~ /^returns(-|$)/) return "returns"
+            sub(/-(clause|then|else|in|in_[a-z]+)(-.*)?$/, "", goal)
+            sub(/-[0-9]+$/, "", goal)
+            return goal
+        }
+        function place(file, name,    n, part, i, fn) {
+            sub(/^\.\//, "", file)
+            if (!of_function(file)) return file " at " name
             n = split(file, part, "/")
-            name = crate
-            for (i = 2; i < n && part[i] != "Proof" && part[i] !~ /^\+/; i++) name = name "::" part[i]
-            if (part[i] ~ /^\+/) { sub(/\.antt$/, "", part[n]); name = name "::" snake(part[n]) }
-            return "fn " name
+            fn = crate
+            for (i = 2; i < n && part[i] != "Proof"; i++) {
+                if (part[i] in together) {
+                    sub(/^decreases-.*/, "&-decreases", name)
+                    sub(/^decreases-/, "", name)
+                    part[i] = substr(name, 1, index(name, "-") - 1)
+                    name = substr(name, index(name, "-") + 1)
+                }
+                sub(/^\+/, "", part[i])
+                fn = fn "::" part[i]
+            }
+            return "fn " fn " at " kind(name)
         }
-        function kind(need) {
-            sub(/-[0-9]+$/, "", need)
-            return need
+        /: error: / && !/: error: [0-9]+ declarations? that depends? on .* not checked/ {
+            at = index($0, ": error: ")
+            file = substr($0, 1, at - 1)
+            said = substr($0, at + 9)
+            sub(/:[0-9]+:[0-9]+$/, "", file)
+            if (said !~ /^`[^`]*`: /) { print place(file, "no name: " substr(said, 1, 80)); next }
+            n = split(said, word, "`")
+            missing = said ~ /(^| )(is not in scope|has no field `|has no `[^`]*` that can be named|is no name|was not admitted)/
+            print (missing ? "name: " : "") place(file, word[2])
         }
-        /: error: / && !/ was not admitted / {
-            split($0, half, ": error: ")
-            sub(/.*\/crates\/[^\/]*\//, "", half[1])
-            sub(/:[0-9]+:[0-9]+$/, "", half[1])
-            split(half[2], word, "`")
-            print place(half[1]) " at " (of_function(half[1]) ? kind(word[2]) : word[2])
-        }
-        /^fn [^ ]*: no proof: / && / does not close / {
-            sub(/:$/, "", $2)
-            name = $2
-            n = split(substr($0, index($0, " does not close ")), word, "`")
-            for (i = 2; i <= n; i += 2) print "fn " name " at " kind(word[i])
+        /^fn [^ ]*: no proof: expected answers in / && / did not prove `/ {
+            sub(/;$/, "", $8)
+            n = split(substr($0, index($0, " did not prove ")), word, "`")
+            for (i = 2; i <= n; i += 2) print place($8, word[i])
         }' "$2" | sort -u
 }
 
@@ -147,7 +136,7 @@ try() { # FOLDER CRATE EDIT
     log=$work/told/$label.log
     bad=$(apply "$1/crates/$2" "$3")
     began=$(date +%s)
-    [ -n "$bad" ] || (cd "$1" && rt dev "$2") >"$log" 2>&1
+    [ -n "$bad" ] || (cd "$1/crates/$2" && rt check) >"$log" 2>&1 </dev/null
     status=$?
     took=$(($(date +%s) - began))
     restore "$1" "$2"
@@ -160,44 +149,29 @@ try() { # FOLDER CRATE EDIT
         head -n 8 "$log"
         return 1
     fi
-    found=$(places "$2" "$log")
+    all=$(places "$2" "$log")
+    found=$(echo "$all" | grep -v '^name: ')
+    nameless=$(echo "$all" | sed -n 's/^name: //p' | while IFS= read -r line; do echo "$found" | grep -qxF -e "$line" || echo "$line"; done)
     named=$(sed -n 's/^refused: //p' "$3" | sort -u)
-    if [ "$found" != "$named" ]; then
+    if [ -n "$nameless" ]; then
+        echo "edit $label: BAD EDIT: only a name that it took away is missing at $(echo "$nameless" | on_one_line), $took s"
+        return 1
+    elif [ "$found" != "$named" ]; then
         echo "edit $label: REFUSED ELSEWHERE: $(echo "$found" | on_one_line); the edit says $(echo "$named" | on_one_line), $took s"
         return 1
     fi
     echo "edit $label: refused at $(echo "$found" | sed 's/^fn //; s/ at /: /' | on_one_line), $took s"
 }
 
-# Both folders go through the same crates and edits; whichever comes to one first has taken it.
-take() { mkdir "$1.taken" 2>/dev/null; }
-
-# Tries the edits of a crate that are left, if it is proved as it stands. What is said of each is kept.
-try_edits() { # FOLDER CRATE
-    [ -f "$work/seed/$2.time" ] && bring "$1" "$2" || return 0
-    for edit in "crates/$2/edits"/*.edit; do
-        told=$work/told/$2/$(basename "$edit" .edit)
-        take "$told" || continue
-        [ -d "$1/target/inc/$2" ] || cp -Rp "$work/seed/$2" "$1/target/inc/$2"
-        try "$1" "$2" "$edit" >"$told" && mv "$told" "$told.refused"
-    done
-}
-
-# Proves the crates that nobody has taken, each before its edits; then tries the edits that are left, once the other folder has proved its crates,
-# or has ended without.
-work_in() { # FOLDER OTHER
+# Both folders go through the same edits; whichever comes to one first has taken it. What is said of each is kept.
+work_in() { # FOLDER
     for crate in $crates; do
-        if take "$work/told/$crate"; then
-            seed "$1" "$crate"
-            touch "$work/told/$crate.seeded"
-        else
-            rm -rf "$1/target/inc/$crate"
-        fi
-        try_edits "$1" "$crate"
-    done
-    for crate in $crates; do
-        until [ -f "$work/told/$crate.seeded" ] || [ -f "$work/told/$2.ended" ]; do sleep 1; done
-        try_edits "$1" "$crate"
+        [ -f "$work/told/$crate.proved" ] || continue
+        for edit in "crates/$crate/edits"/*.edit; do
+            told=$work/told/$crate/$(basename "$edit" .edit)
+            mkdir "$told.taken" 2>/dev/null || continue
+            try "$1" "$crate" "$edit" >"$told" && mv "$told" "$told.refused"
+        done
     done
 }
 
@@ -205,19 +179,21 @@ give_up() { echo "edits: $*"; exit 1; }
 
 if [ $# -gt 0 ]; then
     mkdir -p "$1" && work=$(cd "$1" && pwd -P) || exit 1
+    shift
 else
     work=$(mktemp -d) || exit 1
     trap 'rm -rf "$work"' EXIT
     trap 'exit 1' HUP INT TERM
 fi
-rm -rf "$work/told" "$work/seed"
+case $work/ in "$(pwd -P)"/*) give_up "$work lies in the repository, where rt ci takes no other copy of its files" ;; esac
+rm -rf "$work/told" "$work/one" "$work/two" "$work/kept"
 
 # The crates with edits, each after what it is built on.
 crates=''
-for crate in $(sed -n 's/^\([a-z0-9_]*\):.*/\1/p' crates.txt); do
+for crate in $(sed -n 's/^\([a-z0-9_][a-z0-9_]*\)[ :].*/\1/p' crates.txt); do
     [ -d "crates/$crate/edits" ] || continue
     mkdir -p "$work/told/$crate" || exit 1
-    crates="$crates $crate"
+    case " $* " in '  ' | *" $crate "*) crates="$crates $crate" ;; esac
 done
 [ -n "$crates" ] || give_up "no crate has edits"
 for folder in crates/*/edits; do
@@ -225,24 +201,24 @@ for folder in crates/*/edits; do
     [ -d "$work/told/${crate%/edits}" ] || give_up "$folder belongs to no crate of crates.txt"
 done
 
-# Two folders, each with a copy of the crates. Where no run proves them beside this, libraries that target/ lacks are proved here, once.
-for folder in "$work/one" "$work/two"; do
-    rm -rf "$folder/crates" "$folder/target/rlib" "$folder/target/stamp"
-    mkdir -p "$folder/target/inc" "$folder/target/rlib" "$folder/target/stamp" && cp -R crates crates.txt "$folder/" || give_up "$work cannot be written"
+# A copy of the crates, where those with edits are proved; rt builds what they are built on there too. Then two edits at a time. What proves a crate or
+# tries edits is a shell of its own, so that its end is known however it comes.
+for crate in crates/*/; do
+    mkdir -p "$work/one/$crate" || give_up "$work cannot be written"
+    for part in src specs proofs; do
+        [ ! -d "$crate$part" ] || cp -R "$crate$part" "$work/one/$crate" || give_up "$work cannot be written"
+    done
 done
-if [ -z "${BESIDE:-}" ]; then
-    below=$(for crate in $crates; do under "$crate"; done | sort -u)
-    # shellcheck disable=SC2086
-    rt check $below >"$work/below.log" 2>&1 || { tail -n 5 "$work/below.log"; give_up "a library below is not proved"; }
-fi
-
-# Two edits at a time, each in a shell of its own, so that its end is known however it comes.
-{
-    (work_in "$work/two" one)
-    touch "$work/told/two.ended"
-} &
-(work_in "$work/one" two)
-touch "$work/told/one.ended"
+cp crates.txt "$work/one/" || give_up "$work cannot be written"
+[ ! -f HANDLES ] || cp HANDLES "$work/one/" || give_up "$work cannot be written"
+for crate in $crates; do
+    (prove "$crate") && touch "$work/told/$crate.proved"
+done
+for folder in kept two; do
+    cp -Rp "$work/one" "$work/$folder" || give_up "$work cannot be written"
+done
+(work_in "$work/two") &
+(work_in "$work/one")
 wait
 
 refused=0 failed=0

@@ -24,7 +24,7 @@ file() { # PART
 # What a part does, once it has noted that it was run.
 does() { # PART TEXT
     case $1 in
-    fmt | ci) echo "$2" >"$work/rt.$1" ;;
+    ci) echo "$2" >"$work/rt.ci" ;;
     *) script "$(file "$1")" "echo $1 >>'$work/ran'; $2" ;;
     esac
 }
@@ -32,16 +32,21 @@ does() { # PART TEXT
 # A tree where every part passes, with what an earlier run left. No other programs are on the PATH than those in bin.
 fresh() {
     rm -rf "$tree" "$bin" "$work/tmp" "$work/ran"
-    mkdir -p "$tree/.ci" "$tree/tests" "$tree/target/stamp" "$bin" "$work/tmp"
+    mkdir -p "$tree/.ci" "$tree/tests" "$tree/target/bin" "$tree/crates/optimize_model/out" "$bin" "$work/tmp"
     cp .ci/run "$tree/.ci/run"
-    for program in awk cat dirname env grep mkdir mktemp rm tail tee; do ln -s "$(command -v "$program")" "$bin/$program"; done
+    touch "$tree/target/bin/optimize_model" "$tree/target/optimize_model.unfinished"
+    for program in awk cat cp dirname env grep mkdir mktemp rm sed tail tee; do ln -s "$(command -v "$program")" "$bin/$program"; done
     for program in cc cargo python3; do script "$bin/$program" 'exit 1'; done
-    script "$bin/rt" 'echo $1 >>'"'$work/ran'; . '$work'/rt."'$1'
-    for each in gate fmt quotes constants library wrapper; do does $each "echo $each as expected"; done
-    does laws '[ "$1" = target/bin/optimize_model ] && echo laws as expected'
-    does edits '[ ! -e target ] && [ -n "$BESIDE" ] && echo edits as expected'
-    does ci 'echo a crate; echo 3 passed, 0 failed'
+    script "$bin/rt" '[ $# -eq 1 ] || exit 1; echo $1 >>'"'$work/ran'; . '$work'/rt."'$1'
+    for each in gate quotes constants library wrapper; do does $each "echo $each as expected"; done
+    does laws '[ "$1" = target/bin/optimize_model ] && [ "$(cat target/bin/optimize_model)" = built ] && [ ! -e target/optimize_model.unfinished ] && echo laws as expected'
+    does edits '[ -e crates/optimize_model/out/optimize_model ] && echo edits as expected'
+    does ci "$found_it"'; echo a crate; echo "$ok"; echo 3 passed, 0 failed'
 }
+
+# What rt ci must find, nothing taken away of what an earlier run left; what it says and makes.
+found_it='[ -e target/optimize_model.unfinished ] && [ ! -s target/bin/optimize_model ] || exit 1; echo built >crates/optimize_model/out/optimize_model'
+found_it="$found_it; ok='rt: ok; handles allowed: none; must-fail edits: 40 refused; every proof and must-fail edit was done in this run'"
 
 run() { # [NAME=VALUE]...
     env -i PATH="$bin" TMPDIR="$work/tmp" "$@" "$tree/.ci/run" >"$work/told" 2>&1
@@ -86,7 +91,7 @@ fails() { # WHAT WORDS [NAME=VALUE]...
     report "$what" "$right"
 }
 
-every='ci constants edits fmt gate laws library quotes wrapper'
+every='ci constants edits gate laws library quotes wrapper'
 fresh
 passes 'all parts pass' "$every"
 for part in $every; do
@@ -104,10 +109,10 @@ done
 
 does edits 'mkdir "$1.status"'
 fails 'the status of edits cannot be written' "edits (status '')"
+cat=$(command -v cat)
 for other in '' '0 0' '00' zero; do
-    # rt ci puts another status for that of edits, once that is there
-    does ci "until [ -s \"\$(echo '$work'/tmp/*/edits.status)\" ]; do :; done; printf '$other' >\"\$(echo '$work'/tmp/*/edits.status)\"
-        echo 3 passed, 0 failed"
+    rm "$bin/cat"
+    script "$bin/cat" "case \$1 in */edits.status) printf '$other' ;; *) exec '$cat' \"\$@\" ;; esac"
     fails "the status of edits is '$other'" "edits (status '$other')"
 done
 script "$bin/tee" 'exec cat'
@@ -115,13 +120,30 @@ fails 'the log of rt ci cannot be written' "the last line of rt ci is ''"
 
 for line in '0 passed, 0 failed' '3 passed, 1 failed' '3 passed, 10 failed' '3 failed, 0 passed' 'passed, 0 failed' ' passed, 0 failed' \
     '-3 passed, 0 failed' '3.0 passed, 0 failed' '3 passed, 0 failed, 1 left' '3' ''; do
-    does ci "echo '$line'"
+    does ci "$found_it; echo \"\$ok\"; echo '$line'"
     fails "rt ci ends with '$line'" "the last line of rt ci is '$line'"
 done
 does ci :
 fails 'rt ci says nothing' "the last line of rt ci is ''"
 does ci 'echo 3 passed, 0 failed; echo more'
 fails 'rt ci says more after its last line' "the last line of rt ci is 'more'"
+does ci 'echo 2 passed, 1 failed; exit 1'
+run
+right=no
+[ "$status" -ne 1 ] || [ "$last" != '2 passed, 1 failed' ] || [ "$ran" != 'ci constants gate quotes' ] || right=yes
+report "rt ci fails, and its line is the last" "$right"
+does ci 'echo 3 passed, 0 failed'
+fails "rt ci does not say 'rt: ok'" "no line that begins with 'rt: ok'"
+for edits in '40 refused, 2 bad' '40 refused, 3 of them only by a limit, 12 bad' '0 refused, 10 bad'; do
+    does ci "$found_it; echo 'rt: ok; handles allowed: none; must-fail edits: $edits; the others are kept'; echo 3 passed, 0 failed"
+    fails "rt ci's must-fail edits are $edits" "are bad: they say nothing"
+done
+for edits in '; must-fail edits: 40 refused, 3 of them only by a limit' '; must-fail edits: 40 refused, 0 bad' ''; do
+    does ci "$found_it; echo 'rt: ok; handles allowed: none$edits; done in this run: 1 of the 2 proofs, 3 bad'; echo 3 passed, 0 failed"
+    passes "rt ci says 'rt: ok; handles allowed: none$edits; ..'" "$every"
+done
+does ci 'echo "rt: ok"; echo 3 passed, 0 failed'
+fails 'rt ci leaves no program' "program (status '1')"
 
 for tool in cc cargo; do
     rm "$bin/$tool"
@@ -129,7 +151,7 @@ for tool in cc cargo; do
     rm "$bin/$tool"
     fails "no $tool, and the skip is not asked for" "'$tool'" GEMTWEED_SKIP_LIBRARY=0
     rm "$bin/$tool"
-    passes "no $tool, and the skip is asked for" 'ci constants edits fmt gate laws quotes wrapper' GEMTWEED_SKIP_LIBRARY=1
+    passes "no $tool, and the skip is asked for" 'ci constants edits gate laws quotes wrapper' GEMTWEED_SKIP_LIBRARY=1
 done
 rm "$bin/python3"
 fails 'no python3' "'python3'"
@@ -141,59 +163,91 @@ fails 'the temporary folder is no folder' 'no folder' TMPDIR="$bin/rt"
 rm "$bin/mktemp"
 fails 'no mktemp' 'no folder'
 
-# The edits' own logic: a tree with the crate top, built on low, and one edit of it. The rt that stands in refuses what says two at what the file
-# place names, and says what the file proved has of anything else.
+# The edits' own logic: a tree with the crate top, built on low, and one edit of it. The rt that stands in refuses what says two, with what the file
+# said has, and says what the file proved has of anything else. What a check of an edit left is to be gone at the next check.
 edits_tree() {
     rm -rf "$tree"
-    mkdir -p "$tree/tests" "$tree/crates/low/src" "$tree/crates/top/src" "$tree/crates/top/edits" "$tree/target/rlib/low.rlib" "$tree/target/stamp"
+    mkdir -p "$tree/tests" "$tree/crates/low/src" "$tree/crates/top/src" "$tree/crates/top/edits" "$tree/crates/top/out"
     cp tests/edits.sh "$tree/tests/"
-    printf 'low:\ntop: low\n' >"$tree/crates.txt"
+    printf '# the crates\ntop: low\nlow:\n' >"$tree/crates.txt"
     echo one >"$tree/crates/top/src/lib.rt"
     printf 'refused: fn top::f at returns\nfile: src/lib.rt\nold: one\nnew: two\n' >"$tree/crates/top/edits/wrong.edit"
-    echo low >"$tree/target/stamp/low"
-    echo returns >"$work/place"
+    says 'fn top::f: no proof: expected answers in ./proofs/f/Answers.antt; `search` did not prove `returns`'
     echo logic=proved >"$work/proved"
-    script "$bin/rt" '[ "$1" = dev ] || exit 0
-        [ -f target/stamp/low ] || { echo "low is not there"; exit 2; }
-        mkdir -p "target/inc/$2" && touch "target/inc/$2/checked"
-        if ! grep -q two "crates/$2/src/lib.rt"; then cat '"'$work/proved'"'; grep -q =proved '"'$work/proved'"'; exit; fi
-        echo "fn top::f: no proof: search does not close \`$(cat '"'$work/place'"')\`"
+    script "$bin/rt" '[ "$*" = check ] || exit 2
+        [ "${PWD##*/}" = top ] && [ -f ../../crates.txt ] && [ -d ../low/src ] && [ ! -e out/edited ] || exit 2
+        mkdir -p out && touch out/checked
+        if ! grep -q two src/lib.rt; then cat '"'$work/proved'"'; grep -q =proved '"'$work/proved'"'; exit; fi
+        [ -f out/checked ] && touch out/edited
+        cat '"'$work/said'"'
         echo logic=not-proved
         exit 1'
 }
 
-# What the edits say last, under a limit of time: they must end.
-edits() { # WHAT STATUS LAST [NAME=VALUE]...
-    what=$1 expected=$2 words=$3 right=no
-    shift 3
-    env "$@" PATH="$bin:$PATH" TMPDIR="$work/tmp" timeout 60 "$tree/tests/edits.sh" "$work/edits" >"$work/told" 2>&1
-    status=$? ran=edits last=$(tail -n 1 "$work/told")
-    [ "$status" -ne "$expected" ] || [ "$last" != "$words" ] || right=yes
-    tell "$what" "$right"
-    rm -rf "$work/edits" "$work/ended"
-    edits_tree
+# What the prover says of the edit, a line each.
+says() { printf '%s\n' "$@" >"$work/said"; }
+
+# The place that the edit names, and what the file says beside its one word.
+names() { # PLACE [TEXT]
+    printf 'refused: %s\nfile: src/lib.rt\nold: one\nnew: two\n' "$1" >"$tree/crates/top/edits/wrong.edit"
+    [ $# -lt 2 ] || printf '%s\none\n' "$2" >"$tree/crates/top/src/lib.rt"
 }
 
+# What the edits say last, and in the line of the edit, under a limit of time: they must end.
+edits() { # WHAT STATUS LAST [WORDS]
+    what=$1 expected=$2 words=$3 right=no
+    PATH="$bin:$PATH" TMPDIR="$work/tmp" timeout 60 "$tree/tests/edits.sh" "$work/edits" >"$work/told" 2>&1
+    status=$? ran=edits last=$(tail -n 1 "$work/told")
+    [ "$status" -ne "$expected" ] || [ "$last" != "$words" ] || ! grep -qF -e "${4:-$words}" "$work/told" || right=yes
+    tell "$what" "$right"
+    rm -rf "$work/edits"
+    edits_tree
+}
+well='edits: 1 refused'
+badly='edits: 0 refused, 1 FAILED'
+
 edits_tree
-edits 'an edit is refused at its place' 0 'edits: 1 refused'
-touch "$work/ended"
-edits 'the same, beside a run that has ended with the library' 0 'edits: 1 refused' BESIDE="$work/ended"
-echo requires >"$work/place"
-edits 'an edit is refused elsewhere' 1 'edits: 0 refused, 1 FAILED'
+edits 'an edit is refused at its place' 0 "$well" 'refused at top::f: returns,'
+says './proofs/f/Answers.antt:3:1: error: `returns-then-x-lt5-clause-ok`: no' './proofs/f/Answers.antt:9:1: error: `returns-2`: no'
+edits 'it is refused at two of its returns' 0 "$well" 'refused at top::f: returns,'
+says './proofs/f/Answers.antt:3:1: error: `g-requires-2`: no' 'fn top::f: not proved' 'fn top::h: no proof: it calls `top::f`, which is not proved'
+names 'fn top::f at g-requires'
+edits 'it is refused at a call' 0 "$well" 'refused at top::f: g-requires,'
+says './proofs/Laws.antt:3:1: error: `law`: no' './proofs/Laws.antt:9:1: error: 1 declaration that depends on `law`, which was rejected, was not checked: more' \
+    './proofs/Laws.antt:9:1: error: 2 declarations that depend on `law`, which was not admitted, were not checked: more, most'
+names 'proofs/Laws.antt at law'
+edits 'it is refused at a law' 0 "$well" 'refused at proofs/Laws.antt: law,'
+says 'fn top::f: no proof: expected answers in ./proofs/m/+pair/Answers.antt; `search` did not prove `g-loop-i-preserved`' \
+    'fn top::m::g: no proof: expected answers in ./proofs/m/+pair/Answers.antt; `search` did not prove `g-loop-i-preserved`'
+names 'fn top::m::g at loop-i-preserved' '#[cycle(pair)]'
+edits 'it is refused at a function that is proved with another' 0 "$well" 'refused at top::m::g: loop-i-preserved,'
+says './proofs/m/+g/Answers.antt:3:1: error: `g-requires`: no'
+names 'fn top::m::g at g-requires'
+edits 'it is refused at a function that calls itself' 0 "$well" 'refused at top::m::g: g-requires,'
+says './proofs/f/Answers.antt:3:1: error: `g-requires`: no'
+edits 'it is refused elsewhere' 1 "$badly" 'REFUSED ELSEWHERE: fn top::f at g-requires; the edit says fn top::f at returns,'
+says 'fn top::f: no proof: expected answers in ./proofs/f/Answers.antt; `search` did not prove `returns`, `g-requires`'
+edits 'it is refused at another place too' 1 "$badly" 'REFUSED ELSEWHERE: fn top::f at g-requires, fn top::f at returns;'
+says './proofs/f/Answers.antt:3:1: error: expected a term'
+edits 'it is refused for an error without a name' 1 "$badly" 'REFUSED ELSEWHERE: fn top::f at no name'
+says './proofs/f/Answers.antt:3:1: error: `returns`: `goal.returns`: module `Goals` has no `returns` that can be named from here'
+edits 'it is refused for a name alone' 1 "$badly" 'BAD EDIT: only a name that it took away is missing at fn top::f at returns,'
+says 'fn top::f: not proved'
+edits 'it is refused nowhere' 1 "$badly" 'REFUSED ELSEWHERE: ;'
+names 'fn top::f at returns'
 sed 's/new: two/new: three/' "$tree/crates/top/edits/wrong.edit" >"$work/edit" && mv "$work/edit" "$tree/crates/top/edits/wrong.edit"
-edits 'an edit is not refused' 1 'edits: 0 refused, 1 FAILED'
+edits 'an edit is not refused' 1 "$badly" 'NOT REFUSED'
 sed 's/old: one/old: four/' "$tree/crates/top/edits/wrong.edit" >"$work/edit" && mv "$work/edit" "$tree/crates/top/edits/wrong.edit"
-edits 'an edit does not fit' 1 'edits: 0 refused, 1 FAILED'
+edits 'an edit does not fit' 1 "$badly" 'BAD EDIT'
+cp "$tree/crates/top/edits/wrong.edit" "$tree/crates/top/edits/again.edit"
+cp "$tree/crates/top/edits/wrong.edit" "$tree/crates/top/edits/once_more.edit"
+edits 'three edits, and each finds what was there before' 0 'edits: 3 refused'
 echo logic=not-proved >"$work/proved"
-edits 'the crate is not proved as it stands' 1 'edits: 0 refused, 1 FAILED'
-rm "$tree/target/stamp/low"
-touch "$work/ended"
-edits 'the run beside ends without the library' 1 'edits: 0 refused, 1 FAILED' BESIDE="$work/ended"
-rm "$tree/target/stamp/low"
-(sleep 2 && echo low >"$tree/target/stamp/low") &
-edits 'the run beside proves the library later' 0 'edits: 1 refused' BESIDE="$work/ended"
-script "$bin/rt" '[ "$1" != dev ] || kill -9 $PPID'
-edits 'who proves the crate is killed' 1 'edits: 0 refused, 1 FAILED'
+edits 'the crate is not proved as it stands' 1 "$badly" 'not tried'
+script "$bin/rt" 'kill -9 $PPID'
+edits 'who proves the crate is killed' 1 "$badly" 'not tried'
+script "$bin/rt" 'grep -q two src/lib.rt && kill -9 $PPID; echo logic=proved'
+edits 'who tries the edit is killed' 1 "$badly"
 mkdir -p "$tree/crates/stray/edits"
 edits 'edits of a crate that is not listed' 1 'edits: crates/stray/edits belongs to no crate of crates.txt'
 rm -r "$tree/crates/top/edits"
