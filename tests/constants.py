@@ -38,15 +38,15 @@ DEFINED = r"^#define GEMTWEED_NAME (\d+)\b"
 COUNTED = r"\bGEMTWEED_NAME = (\d+)\b"
 PYTHON = r"^NAME = (\d+)\b"
 PLACES = [
-    ("crates/rules/specs/Table.antt", ANTT, {"ROW_WIDTH": "rowWidth"}),
-    ("crates/rules/specs/Table.antt", r"^(?:kindCode|opCode) NAME = (\d+)$", KINDS),
-    ("crates/btor/specs/Sorts.antt", r"^codeOf NAME = (\d+)$", SORTS | WIDER),
+    ("crates/rules/specs/Table.antt", ANTT, {"ROW_WIDTH": "row_width"}),
+    ("crates/rules/specs/Table.antt", r"^(?:kind_code|op_code) NAME = (\d+)$", KINDS),
+    ("crates/btor/specs/Sorts.antt", r"^code_of NAME = (\d+)$", SORTS | WIDER),
     ("crates/rules/specs/Limits.antt", ANTT,
-     {"NODE_ROOM": "nodeRoom", "BAD_ROOM": "badRoom", "LEAST_ROOM": "leastRoom", "HIGHEST_MODE": "highestMode"}),
+     {"NODE_ROOM": "node_room", "BAD_ROOM": "bad_room", "LEAST_ROOM": "least_room", "HIGHEST_MODE": "highest_mode"}),
     ("crates/rules/specs/Limits.antt", r"^house = record \{.* NAME = (\d+)\b.*$",
      {"MOST_NODES": "nodes", "MOST_ENTRIES": "entries", "MOST_INPUTS": "inputs", "MOST_REPLIES": "replies", "MOST_NAMES": "names",
-      "LONGEST_NAME": "nameLength"}),
-    ("crates/rules/specs/Text.antt", ANTT, {"MOST_NUMBERS": "mostNumbers", "PROGRAM_ROOM": "programRoom"}),
+      "LONGEST_NAME": "name_length"}),
+    ("crates/rules/specs/Text.antt", ANTT, {"MOST_NUMBERS": "most_numbers", "PROGRAM_ROOM": "program_room"}),
     # the Rattle code
     ("crates/tables/src/limits.rt", RATTLE,
      {"MOST_NODES": "NODES", "MOST_ENTRIES": "ENTRIES", "MOST_INPUTS": "INPUTS", "MOST_REPLIES": "REPLIES", "MOST_NAMES": "NAMES",

@@ -223,7 +223,7 @@ def fields(file, record):
     """The fields of a record of the definitions and their types."""
     lines = (SPECS / file).read_text().splitlines()
     start = next(k for k, line in enumerate(lines) if re.match(rf" *pub record {record}\b", line))
-    return dict(re.fullmatch(r" *pub ([\w-]+) : (.*)", line).groups() for line in itertools.takewhile(str.strip, lines[start + 1 :]))
+    return dict(re.fullmatch(r" *pub (\w+) : (.*)", line).groups() for line in itertools.takewhile(str.strip, lines[start + 1 :]))
 
 
 def in_words_of_the_page(kind):
@@ -246,8 +246,8 @@ def stated_laws():
             for inner, law in fields("Laws.antt", record).items():
                 law = re.sub(r"\bf\b", {"g": "And", "h": "Or"}.get(each, each), law)
                 if inner != "below":
-                    found["law" if words else "law at each width"][f"{name} .{inner}"] = in_words_of_the_page(law)
-        elif name != "by-zero":
+                    found["law" if words else "law at each width"][f"{name}.{inner}"] = in_words_of_the_page(law)
+        elif name != "by_zero":
             found["law"][name] = in_words_of_the_page(re.sub(r"\bf (?=[A-Z])", "", kind.replace("rejoined f x y", rejoined)))
     return found
 
@@ -289,7 +289,7 @@ def untied(found):
         for name in sorted(set(page[head]) | set(stated[head])):
             if page[head].get(name) != stated[head].get(name):
                 yield f"{name}: docs/LAWS.md has {page[head].get(name)}, the definition {stated[head].get(name)}"
-    for record, name, kind in (("Laws", "by-zero", BY_ZERO), ("Rearranges", "below", BELOW)):
+    for record, name, kind in (("Laws", "by_zero", BY_ZERO), ("Rearranges", "below", BELOW)):
         if fields("Laws.antt", record).get(name) != kind:
             yield f"{name}: docs/LAWS.md means '{kind}', the definition is '{fields('Laws.antt', record).get(name)}'"
 
