@@ -1,4 +1,4 @@
-/* Gemtweed for C: the proved fold of BTOR2 models, from libgemtweed.a (x86-64 Linux; `rt staticlib gemtweed` writes
+/* Gemtweed for C: the proved fold of BTOR2 models, from libgemtweed.a (x86-64 Linux; ./build_library writes
  * target/staticlib/libgemtweed.a). docs/FORMAT.md says what words, names, modes, results and refusals are.
  *
  *     cc -I include program.c target/staticlib/libgemtweed.a

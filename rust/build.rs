@@ -1,4 +1,4 @@
-// Links libgemtweed.a, from GEMTWEED_LIB_DIR or from ../target/staticlib, where `rt staticlib gemtweed` writes it.
+// Links libgemtweed.a, from GEMTWEED_LIB_DIR or from ../target/staticlib, where `build_library` writes it.
 
 use std::path::PathBuf;
 
@@ -11,7 +11,7 @@ fn main() {
     };
     let library = folder.join("libgemtweed.a");
     if !library.is_file() {
-        eprintln!("no {}: run `rt staticlib gemtweed`, or set GEMTWEED_LIB_DIR", library.display());
+        eprintln!("no {}: run `build_library` at the top of the repository, or set GEMTWEED_LIB_DIR", library.display());
         std::process::exit(1);
     }
     println!("cargo:rerun-if-changed={}", library.display());

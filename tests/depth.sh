@@ -1,10 +1,10 @@
 #!/bin/sh
 # How deep a call goes and how it grows (docs/PERFORMANCE.md): instructions and least stack of call_limits on one whole call
 # of each size. Needs valgrind.
-#     tests/depth.sh [PROGRAM]          PROGRAM is target/bin/call_limits unless given
+#     tests/depth.sh [PROGRAM]          PROGRAM is that which rt leaves in its crate's out/ unless given
 set -eu
 
-program=$(realpath "${1:-target/bin/call_limits}")
+program=$(realpath "${1:-$(dirname "$0")/../crates/call_limits/out/call_limits}")
 header=$(realpath "$(dirname "$0")/../include/gemtweed.h")
 house() { sed -n "s/^#define GEMTWEED_$1 \([0-9]*\).*/\1/p" "$header"; } # one of the house's numbers
 most=$(house MOST_NODES)

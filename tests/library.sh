@@ -8,7 +8,7 @@ set -eu
 [ $# -eq 0 ] || export GEMTWEED_CASES
 cd "$(dirname "$0")/.."
 
-rt staticlib gemtweed
+./build_library
 
 folder=$(mktemp -d)
 trap 'rm -r "$folder"' EXIT

@@ -1,9 +1,9 @@
 #!/bin/sh
 # Instructions of table_limits on one call or label of each size (docs/PERFORMANCE.md). Needs valgrind.
-#     tests/speed.sh [PROGRAM]          PROGRAM is target/bin/table_limits unless given
+#     tests/speed.sh [PROGRAM]          PROGRAM is that which rt leaves in its crate's out/ unless given
 set -eu
 
-program=$(realpath "${1:-target/bin/table_limits}")
+program=$(realpath "${1:-$(dirname "$0")/../crates/table_limits/out/table_limits}")
 header=$(realpath "$(dirname "$0")/../include/gemtweed.h")
 house() { sed -n "s/^#define GEMTWEED_$1 \([0-9]*\).*/\1/p" "$header"; } # one of the house's numbers
 most_nodes=$(house MOST_NODES)

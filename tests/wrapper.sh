@@ -82,7 +82,7 @@ link_tools() { # FOLDER COMMAND...
 make_room() { # FOLDER
     mkdir -p "$1/target/bin"
     cp "$wrapper" "$1/optimize_model"
-    printf '%s\n' '# The crates.' 'base:' 'middle: base io # and more' 'optimize_model: middle os' 'other: base' >"$1/crates.txt"
+    printf '%s\n' '# The crates.' 'base:' 'middle opt_level=2: base io # and more' 'optimize_model: middle os' 'other: base' >"$1/crates.txt"
     for crate in base middle optimize_model other; do
         for part in src specs proofs must-fail; do
             mkdir -p "$1/crates/$crate/$part"
@@ -114,17 +114,15 @@ cat >/dev/null
 . "\$work/build"
 END
     cat >"$work/well" <<'END'
-echo "rt: base proved (1 s)"
+echo "rt: chose --jobs 2 for base"
 awk 'BEGIN { for (i = 1; i <= 300; i++) print "fn base::f" i ": proved" }'
 echo "note: large solution" >&2
-echo "rt: middle proved (2 s)" >&2
+echo "rt: chose --jobs 4 for middle" >&2
 awk 'BEGIN { for (i = 1; i <= 300; i++) print "fn middle::f" i ": proved; rt: this is no line of rt" }'
-if [ ! -e target/stamp/optimize_model ]; then
-    mkdir -p target/bin target/stamp
-    cp "$work/program" target/bin/optimize_model
-    : >target/stamp/optimize_model
-fi
-echo "rt: ok, 3 proved"
+mkdir -p out
+cp "$work/program" out/optimize_model
+echo "rt: running out/optimize_model; to give it other input, run that file yourself"
+echo "refused 1 0 0"
 END
     chmod 755 "$work/program" "$work/rt/rt"
 }
@@ -418,14 +416,14 @@ try_building() {
     run "$room/optimize_model"
     status_is 1
     out_is "$work/refusal"
-    grep -q -x "check optimize_model in $room" "$work/calls" 2>/dev/null || fault "rt was called otherwise"
+    grep -q -x "run in $room/crates/optimize_model" "$work/calls" 2>/dev/null || fault "rt was called otherwise"
     calls_are 1
     tell "not built: it is built, and the input is left to the program"
     head -n 1 "$work/err" | grep -q '^optimize_model: .*minutes' || fault "the first line does not say how long it takes"
-    printf '%s\n' 'rt: base proved (1 s)' 'rt: middle proved (2 s)' 'rt: ok, 3 proved' >"$work/lines"
+    printf '%s\n' 'rt: chose --jobs 2 for base' 'rt: chose --jobs 4 for middle' >"$work/lines"
     sed 1d "$work/err" | cmp -s - "$work/lines" || fault "other lines than those of rt, $(wc -l <"$work/err") in all"
     tell "what is shown of a build: how long it takes, and the lines of rt"
-    awk 'END { exit NR != 604 }' "$room"/target/*.log 2>/dev/null || fault "not every line is in the log"
+    awk 'END { exit NR != 605 }' "$room"/target/*.log 2>/dev/null || fault "not every line is in the log"
     tell "the whole log is below target"
     path=$work/tools
     run "$room/optimize_model"
@@ -466,8 +464,8 @@ try_rebuilding() {
     calls_are 0
     answered 1 "$work/refusal" "not built again: a crate that it is not built on, and a must-fail edit, are newer"
     rm "$program"
-    rebuilds "the program is gone, though rt's stamp of it is there"
-    { cat "$work/well"; echo 'sleep 1; touch crates/base/src/file; sleep 1'; } >"$work/build"
+    rebuilds "the program is gone, though rt's own is there"
+    { cat "$work/well"; echo 'sleep 1; touch ../base/src/file; sleep 1'; } >"$work/build"
     touch "$room/crates/middle/src/file"
     run "$room/optimize_model"
     cp "$work/well" "$work/build"
@@ -478,10 +476,10 @@ try_rebuilding() {
 }
 
 try_failing_builds() {
-    { sed '$d' "$work/well"; echo 'echo "rt: middle NOT PROVED (exit 1, 2 s)"; exit 1'; } >"$work/build"
+    { sed '6,$d' "$work/well"; echo 'echo "rt: the library middle did not build, so nothing above it was checked"; exit 1'; } >"$work/build"
     touch "$room/crates/middle/src/file"
     run "$room/optimize_model"
-    err_has '^rt: middle NOT PROVED'
+    err_has '^rt: the library middle did not build'
     log=$(sed -n "s|.*\($room/target/[^ ;,]*\).*|\1|p" "$work/err" | tail -n 1)
     awk 'END { exit NR != 604 }' "${log:-/dev/null}" 2>/dev/null || fault "no log is named that has every line"
     calls_are 1
@@ -494,8 +492,8 @@ try_failing_builds() {
     run "$room/optimize_model"
     failed 'rt is not on the PATH' "to be built again, and rt is missing"
     path=$work/rt:$work/tools
-    echo 'echo "rt: ok"' >"$work/build"
-    rm "$program"
+    echo 'echo "rt: running out/optimize_model"' >"$work/build"
+    rm "$program" "$room/crates/optimize_model/out/optimize_model"
     run "$room/optimize_model"
     failed '^optimize_model: .*could not be built' "a build that leaves no program"
     cp "$work/well" "$work/build"
@@ -516,7 +514,7 @@ try_progress() {
     touch -t 200201010000 "$program"
     : >"$work/err"
     run "$room/optimize_model" &
-    soon grep -q '^rt: base proved' "$work/err" || fault "the line came late"
+    soon grep -q '^rt: chose --jobs 2 for base' "$work/err" || fault "the line came late"
     : >"$work/go"
     wait
     tell "rt's lines are shown as they come"
@@ -527,7 +525,7 @@ input=$model path=$work/tools real=$work/real/optimize_model
 mkdir "$work/tmp"
 chmod 777 "$work/tmp"
 : >"$work/err"
-link_tools "$work/tools" sh awk cat find mkdir readlink rm tee touch
+link_tools "$work/tools" sh awk cat cp find mkdir mv readlink rm tee touch
 link_tools "$work/git" git
 make_stand_ins
 awk 'BEGIN { print "accepted"; for (i = 1; i <= 9; i++) print i, 7, i }' >"$work/answer"
