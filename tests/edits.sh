@@ -80,7 +80,8 @@ cycles() { # CRATE
 }
 
 # The places without a proof in what the prover said, with 'name: ' before one where it only misses a name. An error that follows from another one says
-# that something 'was not checked'. In the folder of functions that are proved together a goal begins with its function's name.
+# that something 'was not checked'. In the folder of functions that are proved together a goal begins with its function's name, and what does not is a
+# law of that file.
 places() { # CRATE LOG
     awk -v crate="$1" -v cycles="$(cycles "$1")" '
         BEGIN {
@@ -94,22 +95,26 @@ places() { # CRATE LOG
             sub(/-[0-9]+$/, "", goal)
             return goal
         }
-        function place(file, name,    n, part, i, fn) {
+        function place(file, name,    n, part, i, fn, whose) {
             sub(/^\.\//, "", file)
             if (!of_function(file)) return file " at " name
             n = split(file, part, "/")
             fn = crate
             for (i = 2; i < n && part[i] != "Proof"; i++) {
                 if (part[i] in together) {
-                    sub(/^decreases-.*/, "&-decreases", name)
-                    sub(/^decreases-/, "", name)
-                    part[i] = substr(name, 1, index(name, "-") - 1)
+                    whose = substr(name, 1, index(name, "-") - 1)
+                    if (!((fn "::" whose) in functions)) return file " at " name
+                    part[i] = whose
                     name = substr(name, index(name, "-") + 1)
                 }
                 sub(/^\+/, "", part[i])
                 fn = fn "::" part[i]
             }
             return "fn " fn " at " kind(name)
+        }
+        NR == FNR {
+            if (/^fn [^ ]*: /) functions[substr($2, 1, length($2) - 1)] = 1
+            next
         }
         /: error: / && !/: error: [0-9]+ declarations? that depends? on .* not checked/ {
             at = index($0, ": error: ")
@@ -125,7 +130,7 @@ places() { # CRATE LOG
             sub(/;$/, "", $8)
             n = split(substr($0, index($0, " did not prove ")), word, "`")
             for (i = 2; i <= n; i += 2) print place($8, word[i])
-        }' "$2" | sort -u
+        }' "$2" "$2" | sort -u
 }
 
 on_one_line() { paste -sd, - | sed 's/,/, /g'; }
