@@ -28,8 +28,8 @@ chunks = [picked[i : i + 100] for i in range(0, len(picked), 100)]
 for k, chunk in enumerate(chunks, 1):
     with open("%s/Samples%d.antt" % (out, k), "w") as f:
         f.write("-- Random tables and what the published Rust answered but for the departures, made by oracle/regenerate (oracle/README.md).\n")
-        f.write("-- Assumes nothing.\nuse mathlib.Core.List.{List, [], _∷_}\n")
-        f.write("use Rattle·rules_samples·specs.specs.Sample.{Sample, sample}\n\nunfoldable pub samples : List Sample\nsamples =\n    ")
+        f.write("-- Assumes nothing.\nuse Rattle.std.specs.Prelude.{List, [], ◌∷◌}\n")
+        f.write("use Rattle.rules_samples.specs.Sample.{Sample, sample}\n\nunfoldable pub samples : List Sample\nsamples =\n    ")
         for line in chunk:
             mode, words, names = split(cases[int(line)])
             f.write("sample %d (%s) (%s) (%s)\n    ∷ " % (mode, antt(words), antt(names), antt(numbers(answers[int(line)]))))
