@@ -25,9 +25,9 @@ def chapters():
 
 
 def comments():
-    """Every comment with a quotation: its place and its text."""
+    """Every comment with a quotation: its place and its text. What rt keeps in a crate's out/ is left out."""
     for path in sorted((ROOT / "crates").rglob("*")):
-        if path.suffix in COMMENT:
+        if path.suffix in COMMENT and path.relative_to(ROOT).parts[2:3] != ("out",):
             for number, line in enumerate(path.read_text().splitlines(), 1):
                 found = COMMENT[path.suffix].search(line)
                 if found and '"' in found.group(1):
