@@ -1,12 +1,11 @@
 -- Facts about the sorts, each proved once for all ten: by a test that is computed over the list of sorts, or over the width.
 -- Assumes nothing.
-use Rattle.std.proofs.Common.{◌≡◌, ℕ, ◌+◌, ◌-◌, ◌/◌, ◌^◌, ◌≤◌, Bool, true, false, ◌&&◌, T, leb, List, [], ◌∷◌, sym, refl, ap, ◌∙◌, arith, leb→le}
+use Rattle.std.proofs.Common.{◌≡◌, ℕ, ◌+◌, ◌-◌, ◌/◌, ◌^◌, ◌≤◌, Bool, true, false, ◌&&◌, T, leb, List, [], ◌∷◌, sym, refl, ap, ◌∙◌, arith, leb→le, Result, Ok, Err}
 use lib.Pow.{ones_split, ones_lt, high}
 use Rattle.btor.specs.Sorts.{sorts, code_of, width_of, sort_of, bits_of, width}
 use Rattle.btor.specs.declared.node_type.NodeType.{NodeType}
 use Rattle.btor.specs.declared.node_type.NodeType.TheVariants.{Bit, Word, Memory, Input1Byte, Input2Byte, Input3Byte, Input4Byte, Input5Byte, Input6Byte, Input7Byte}
-use Rattle.btor.specs.declared.node_type.CodedSort.{CodedSort}
-use Rattle.btor.specs.declared.node_type.CodedSort.TheVariants.{Known, Unknown}
+use Rattle.btor.specs.declared.node_type.UnknownSort.{UnknownSort}
 
 abbrev pub Each : (NodeType → Type 0) → List NodeType → Type 0
 Each P [] = Unit
@@ -45,9 +44,9 @@ pub width_le : (s : NodeType) → width_of s ≤ 64
 width_le s = leb→le (width_of s) 64 (by_test (λ s. leb (width_of s) 64) tt s)
 
 -- each sort's code names it
-pub code-names : (s : NodeType) → sort_of (code_of s) ≡ Known s
+pub code-names : (s : NodeType) → sort_of (code_of s) ≡ Ok s
 code-names =
-    of-each (λ s. sort_of (code_of s) ≡ Known s)
+    of-each (λ s. sort_of (code_of s) ≡ Ok s)
     (refl, (refl, (refl, (refl, (refl, (refl, (refl, (refl, (refl, (refl, tt))))))))))
 
 -- a word of ones, shifted down to a width, is the width's ones
@@ -58,9 +57,9 @@ ones_shifted w h =
     ∙ ap (λ (n : ℕ). n / 2 ^ (64 - w)) (ones_split w (64 - w))
     ∙ high (2 ^ w - 1) (64 - w) (ones_lt (64 - w))
 
-bits_le : (c : CodedSort) → bits_of c ≤ 64
-bits_le (Known s) = width_le s
-bits_le Unknown = omega arith
+bits_le : (c : Result NodeType UnknownSort) → bits_of c ≤ 64
+bits_le (Ok s) = width_le s
+bits_le (Err e) = omega arith
 
 -- the width of any code, also of one that names no sort
 pub code-width_le : (c : ℕ) → width c ≤ 64

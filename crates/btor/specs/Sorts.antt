@@ -3,11 +3,10 @@
 --     bit_code, word_code, memory_code      the three codes that rules name
 --     ones_of    all ones of a sort       sort_of     the sort that a code names, if it names one
 -- Assumes nothing.
-use Rattle.std.specs.Prelude.{ℕ, ◌-◌, ◌^◌, cond, List, [], ◌∷◌, ◌==◌}
+use Rattle.std.specs.Prelude.{ℕ, ◌-◌, ◌^◌, cond, List, [], ◌∷◌, ◌==◌, Result, Ok, Err}
 use Rattle.btor.specs.declared.node_type.NodeType.{NodeType}
 use Rattle.btor.specs.declared.node_type.NodeType.TheVariants.{Bit, Word, Memory, Input1Byte, Input2Byte, Input3Byte, Input4Byte, Input5Byte, Input6Byte, Input7Byte}
-use Rattle.btor.specs.declared.node_type.CodedSort.{CodedSort}
-use Rattle.btor.specs.declared.node_type.CodedSort.TheVariants.{Known, Unknown}
+use Rattle.btor.specs.declared.node_type.UnknownSort.{UnknownSort}
 
 -- all ten
 abbrev pub sorts : List NodeType
@@ -52,17 +51,17 @@ abbrev pub ones_of : NodeType → ℕ
 ones_of s = 2 ^ width_of s - 1
 
 -- the one of some sorts that has the code c
-abbrev pub named_in : List NodeType → ℕ → CodedSort
-named_in [] c = Unknown
-named_in (s ∷ ss) c = cond (c == code_of s) (Known s) (named_in ss c)
+abbrev pub named_in : List NodeType → ℕ → Result NodeType UnknownSort
+named_in [] c = Err (record { 0 = c })
+named_in (s ∷ ss) c = cond (c == code_of s) (Ok s) (named_in ss c)
 
-abbrev pub sort_of : ℕ → CodedSort
+abbrev pub sort_of : ℕ → Result NodeType UnknownSort
 sort_of c = named_in sorts c
 
 -- the width of a code's sort, for tables, whose sorts are codes; 0 where the code names none
-abbrev pub bits_of : CodedSort → ℕ
-bits_of (Known s) = width_of s
-bits_of Unknown = 0
+abbrev pub bits_of : Result NodeType UnknownSort → ℕ
+bits_of (Ok s) = width_of s
+bits_of (Err e) = 0
 
 unfoldable pub width : ℕ → ℕ
 width c = bits_of (sort_of c)

@@ -2,7 +2,7 @@
 ghost use Rattle.std.specs.Prelude.{◌≡◌};
 ghost use Rattle.btor.specs.Sorts.{code_of, width_of, ones_of, sort_of};
 
-#[derive(Clone, Copy)]
+#[derive(Clone, Copy, Debug, PartialEq, Eq)]
 pub enum NodeType {
     Bit,
     Word,
@@ -16,13 +16,11 @@ pub enum NodeType {
     Input7Byte,
 }
 
-// What a word names, read as a sort code.
-#[derive(Clone, Copy)]
-pub enum CodedSort {
-    Known(NodeType),
-    Unknown,
-}
+// A word that is the code of no sort.
+#[derive(Clone, Copy, Debug, PartialEq, Eq)]
+pub struct UnknownSort(pub u64);
 
+// The codes are associated constants, as the project's rules ask: code is compared with them where no sort is at hand.
 impl NodeType {
     pub const BIT: u64 = 1;
 
@@ -62,25 +60,6 @@ impl NodeType {
         }
     }
 
-    // The sort that a code names.
-    pub fn from_code(code: u64) -> CodedSort
-        ensures { result ≡ sort_of code }
-    {
-        match code {
-            NodeType::BIT => CodedSort::Known(NodeType::Bit),
-            NodeType::WORD => CodedSort::Known(NodeType::Word),
-            NodeType::MEMORY => CodedSort::Known(NodeType::Memory),
-            NodeType::INPUT_1_BYTE => CodedSort::Known(NodeType::Input1Byte),
-            NodeType::INPUT_2_BYTE => CodedSort::Known(NodeType::Input2Byte),
-            NodeType::INPUT_3_BYTE => CodedSort::Known(NodeType::Input3Byte),
-            NodeType::INPUT_4_BYTE => CodedSort::Known(NodeType::Input4Byte),
-            NodeType::INPUT_5_BYTE => CodedSort::Known(NodeType::Input5Byte),
-            NodeType::INPUT_6_BYTE => CodedSort::Known(NodeType::Input6Byte),
-            NodeType::INPUT_7_BYTE => CodedSort::Known(NodeType::Input7Byte),
-            _ => CodedSort::Unknown,
-        }
-    }
-
     // How many bits a number of the sort has. A memory is no number: 0.
     pub fn bitsize(self) -> u64
         ensures { result ≡ width_of self }
@@ -108,6 +87,29 @@ impl NodeType {
             0
         } else {
             u64::MAX >> (64 - width)
+        }
+    }
+}
+
+// The sort that a code names.
+impl TryFrom<u64> for NodeType {
+    type Error = UnknownSort;
+
+    ghost try_from_gives = { λ code named. named ≡ sort_of code };
+
+    fn try_from(code: u64) -> Result<NodeType, UnknownSort> {
+        match code {
+            NodeType::BIT => Ok(NodeType::Bit),
+            NodeType::WORD => Ok(NodeType::Word),
+            NodeType::MEMORY => Ok(NodeType::Memory),
+            NodeType::INPUT_1_BYTE => Ok(NodeType::Input1Byte),
+            NodeType::INPUT_2_BYTE => Ok(NodeType::Input2Byte),
+            NodeType::INPUT_3_BYTE => Ok(NodeType::Input3Byte),
+            NodeType::INPUT_4_BYTE => Ok(NodeType::Input4Byte),
+            NodeType::INPUT_5_BYTE => Ok(NodeType::Input5Byte),
+            NodeType::INPUT_6_BYTE => Ok(NodeType::Input6Byte),
+            NodeType::INPUT_7_BYTE => Ok(NodeType::Input7Byte),
+            _ => Err(UnknownSort(code)),
         }
     }
 }

@@ -1,6 +1,8 @@
 // The operators of BTOR2 on numbers of at most 64 bits, as optimize.rs folds them, and Div and Rem as the standard has them.
+#![tactic(auto, unfolding(crate::specs::Operators::compute, crate::specs::Operators::signed_div))]
+
 ghost use Rattle.std.specs.Prelude.{◌≡◌, ◌+◌, ◌-◌, ◌*◌, ◌/◌, ◌%◌, ◌^◌};
-ghost use Rattle.btor.specs.Operators.{Op, rust, standard, compute, both, either, complement, less, same, extend, magnitude, overflow};
+ghost use Rattle.btor.specs.Operators.{Op, rust, standard, compute, both, either, complement, less, same, extend};
 ghost use Rattle.btor.specs.Readings.{reading_is};
 ghost use Rattle.btor.specs.Sorts.{width_of};
 
@@ -15,17 +17,17 @@ const LIMB: u64 = 65536;
 pub fn wrapping_add(left: u64, right: u64) -> u64
     ensures { result ≡ compute rust Op.Add left right }
 {
-    std::num::wrapping_add_u64(left, right)
+    left.wrapping_add(right)
 }
 
 // The difference modulo 2^64.
 pub fn wrapping_sub(left: u64, right: u64) -> u64
     ensures { result ≡ compute rust Op.Sub left right }
 {
-    std::num::wrapping_sub_u64(left, right)
+    left.wrapping_sub(right)
 }
 
-// The product of two numbers of 16 bits, in 32: the only multiplication here.
+// The product of two numbers of 16 bits, in 32: the only multiplication here, as the project wants products of its own.
 fn piece(left: u16, right: u16) -> u32
     ensures { result ≡ left * right }
 {
@@ -44,7 +46,7 @@ fn add_columns(sum: u64, left: u64, right: u64) -> u64
     ensures { result ≡ (sum + (left % 2 ^ 16 * (right % 2 ^ 16) + (left / 2 ^ 16 % 2 ^ 16 * (right % 2 ^ 16) + left % 2 ^ 16 * (right / 2 ^ 16 % 2 ^ 16)) * 2 ^ 16)) % 2 ^ 64 }
 {
     let cross = low_piece(left >> 16, right) as u64 + low_piece(left, right >> 16) as u64;
-    std::num::wrapping_add_u64(sum, low_piece(left, right) as u64 + (cross << 16))
+    sum.wrapping_add(low_piece(left, right) as u64 + (cross << 16))
 }
 
 // The product modulo 2^64: columns 0 to 3, ten pieces.
@@ -56,48 +58,13 @@ pub fn wrapping_mul(left: u64, right: u64) -> u64
     add_columns(high << 32, left, right)
 }
 
-// How far a word, read as a signed number, is from zero.
-fn distance(x: u64) -> u64
-    ensures { result ≡ magnitude x }
-{
-    if x < HALF { x } else { u64::MAX - x + 1 }
-}
-
-// The negative of a number, modulo 2^64.
-fn negated(x: u64) -> u64
-    ensures { result ≡ (2 ^ 64 - x) % 2 ^ 64 }
-{
-    if x == 0 { 0 } else { u64::MAX - x + 1 }
-}
-
-// Whether the quotient of two signed numbers is too large: the least by -1.
-fn overflows(left: u64, right: u64) -> bool
-    ensures { result ≡ overflow left right }
-{
-    left == HALF && right == u64::MAX
-}
-
 // Signed, toward zero; by 0, and for the least by -1, the greatest.
 pub fn btor_u64_div(left: u64, right: u64) -> u64
     ensures { result ≡ compute rust Op.Div left right }
 {
-    if right == 0 {
-        return HALF - 1;
-    }
-    if overflows(left, right) {
-        return HALF - 1;
-    }
-    let quotient = distance(left) / distance(right);
-    if left < HALF {
-        if right < HALF {
-            quotient
-        } else {
-            negated(quotient)
-        }
-    } else if right < HALF {
-        negated(quotient)
-    } else {
-        quotient
+    match left.cast_signed().checked_div(right.cast_signed()) {
+        Some(quotient) => quotient.cast_unsigned(),
+        None => HALF - 1,
     }
 }
 
@@ -105,14 +72,14 @@ pub fn btor_u64_div(left: u64, right: u64) -> u64
 pub fn btor_u64_divu(left: u64, right: u64) -> u64
     ensures { result ≡ compute rust Op.Divu left right }
 {
-    if right == 0 { u64::MAX } else { left / right }
+    left.checked_div(right).unwrap_or(u64::MAX)
 }
 
 // Unsigned; by 0, all ones.
 pub fn btor_u64_rem(left: u64, right: u64) -> u64
     ensures { result ≡ compute rust Op.Rem left right }
 {
-    if right == 0 { u64::MAX } else { left % right }
+    left.checked_rem(right).unwrap_or(u64::MAX)
 }
 
 // The standard's Div: by 0, all ones for a dividend of 0 or more and 1 for a negative one; the least by -1 is the least.
@@ -121,10 +88,9 @@ pub fn standard_div(left: u64, right: u64) -> u64
 {
     if right == 0 {
         if left < HALF { u64::MAX } else { 1 }
-    } else if overflows(left, right) {
-        HALF
     } else {
-        btor_u64_div(left, right)
+        let quotient = left.cast_signed().wrapping_div(right.cast_signed());
+        quotient.cast_unsigned()
     }
 }
 
@@ -132,10 +98,10 @@ pub fn standard_div(left: u64, right: u64) -> u64
 pub fn standard_rem(left: u64, right: u64) -> u64
     ensures { result ≡ compute standard Op.Rem left right }
 {
-    if right == 0 { left } else { left % right }
+    left.checked_rem(right).unwrap_or(left)
 }
 
-// Div in either reading.
+// Div in either reading. Of the operators two have a reading, and a match says it in less than a trait with an instance for each.
 pub fn div(how: Reading, left: u64, right: u64) -> u64
     ensures { result ≡ compute (reading_is how) Op.Div left right }
 {
@@ -155,7 +121,7 @@ pub fn rem(how: Reading, left: u64, right: u64) -> u64
     }
 }
 
-// To the left; by 64 or more, 0.
+// To the left; by 64 or more, 0. The distance is any word, where the library's `unbounded_shl` takes 32 bits of one.
 pub fn btor_u64_sll(left: u64, right: u64) -> u64
     ensures { result ≡ compute rust Op.Sll left right }
 {

@@ -1,8 +1,7 @@
-// Kept cases, each on a line with its answer: calls judged, labels, and whole calls with every word that they leave.
+// Kept cases at limits, each on a line with its answer: calls judged, labels, and whole calls with every word that they leave.
 #![tactic(auto)]
 
-mod calls; // calls.rt: a whole call, with every word that it leaves
-mod cases; // cases.rt: a call that is judged, or a label
-mod list; // list.rt: the lines of a list
-mod numbers; // numbers.rt: the numbers of a line
-pub mod replay; // replay.rt: a list read and tried
+mod asked; // asked.rt: what a case asks, and its answer held to the kept one
+pub mod case; // case.rt: a line read
+mod entry; // entry.rt: the entry points by their numbers
+mod part; // part.rt: the numbers of a part of a line

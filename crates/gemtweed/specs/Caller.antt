@@ -1,7 +1,7 @@
 -- What a caller from C or Rust learns of a call, all of it: the answer, every word of both buffers, and a label's every byte.
---     Left              what the contracts in fold.rt say of a fold and of what it left
+--     Left              what the contracts of the exports say of a fold and of what it left
 --     Told              what follows: an accepted fold keeps the values, and a dropped bad state is false (demand 3); a refused one leaves nothing
---     Labelled          what the contract in label.rt says of a label
+--     Labelled          what the contract of the exported label says
 -- Assumes nothing.
 use Rattle.std.specs.Prelude.{ℕ, ◌≡◌, ◌≢◌, List, length, replicate}
 use Rattle.rules.specs.Limits.{house}

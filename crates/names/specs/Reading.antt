@@ -5,21 +5,22 @@
 --     read_from, read_names   the names that a reader hands back one after the other, up to the end of the bytes
 --     begins_at, name_in, is_named   the place of name k, its bytes, and whether there is one
 -- Assumes nothing.
-use Rattle.std.specs.Prelude.{ℕ, zero, suc, ◌+◌, ◌-◌, Bool, true, false, List, [], ◌∷◌, length, drop, ltb}
+use Rattle.std.specs.Prelude.{ℕ, zero, suc, ◌+◌, ◌-◌, Bool, true, false, List, [], ◌∷◌, length, drop, ltb, Result, Ok, Err, Some, None}
+use Rattle.std.specs.Prelude as rust
 use Rattle.std.proofs.Math.Option.{Option, none, some}
 use Rattle.rules.specs.Refusal.{Out, refused, done, ◌>>=◌}
 use Rattle.rules.specs.Limits.{house}
 use Rattle.rules.specs.Names.{cut_names, names_of, name_of}
 use Rattle.tables.specs.NameAnswers.{read_at, place_of}
 use Rattle.tables.specs.Refusals.{refusal_of}
-use Rattle.names.specs.declared.place.NextName.{NextName}
-use Rattle.names.specs.declared.place.NextName.TheVariants.{Name, End, Refused}
+use Rattle.tables.specs.declared.names.NameSpan.{NameSpan}
+use Rattle.tables.specs.declared.refusal.Refusal.{Refusal}
 
 -- ---- what stands at a place: none is the end of the bytes
-abbrev pub next_of : NextName → Out (Option (ℕ × ℕ))
-next_of (Name start len) = done (some (start, len))
-next_of End = done none
-next_of (Refused r) = refused (refusal_of r)
+abbrev pub next_of : Result (rust.Option NameSpan) Refusal → Out (Option (ℕ × ℕ))
+next_of (Ok (Some n)) = done (some (n.start, n.len))
+next_of (Ok None) = done none
+next_of (Err r) = refused (refusal_of r)
 
 unfoldable pub next_at : List ℕ → ℕ → Out (Option (ℕ × ℕ))
 next_at bs at =

@@ -1,54 +1,29 @@
-// Names by the place of their length byte, over the bytes and a number. The reader is made of these.
+// Names by the place of their length byte, over the bytes and a number, by the house's limits. The reader is made of these.
 ghost use Rattle.std.specs.Prelude.{◌≡◌};
-ghost use Rattle.rules.specs.Limits.{house};
-ghost use Rattle.tables.specs.NameAnswers.{read_of, read_at, placed, place_of};
 ghost use Rattle.names.specs.Reading.{next_of, next_at, name_at, after_at, begins_at, is_named};
 
 use tables::limits::Limits;
-use tables::names::{NamePlace, NameRead};
+use tables::names::{NameSpan, name_place, read_name};
 use tables::refusal::Refusal;
 
-// What stands at a place.
-#[derive(Clone, Copy)]
-pub enum NextName {
-    Name { start: usize, len: usize },
-    End,
-    Refused(Refusal),
-}
-
-// The name at a place, and the place of a name, by the house's limits.
-fn read_name(names: &[u8], at: usize) -> NameRead
-    ensures { read_of result ≡ read_at house names.now at }
-{
-    tables::names::read_name(names, at, Limits::house())
-}
-
-fn name_place(names: &[u8], k: u64) -> NamePlace
-    ensures { placed result ≡ place_of house names.now k }
-{
-    tables::names::name_place(names, k, Limits::house())
-}
-
-// The name whose length byte stands at a place, the end of the bytes, or why no name can be read there.
-pub fn next_at(names: &[u8], at: usize) -> NextName
+// The name whose length byte stands at a place, `None` at the end of the bytes, or why no name can be read there.
+pub fn next_at(names: &[u8], at: usize) -> Result<Option<NameSpan>, Refusal>
     ensures { next_of result ≡ next_at names.now at }
 {
     if names.len() <= at {
-        return NextName::End;
+        return Ok(None);
     }
-    match read_name(names, at) {
-        NameRead::Name { start, len } => NextName::Name { start, len },
-        NameRead::Refused(why) => NextName::Refused(why),
-    }
+    let name = read_name(names, at, Limits::house())?;
+    Ok(Some(name))
 }
 
 // The bytes of the name at a place, as a part of the names bytes; no bytes where no name can be read.
 pub fn name_at<'a>(names: &'a [u8], at: usize) -> &'a [u8]
     ensures { result.now ≡ name_at names.now at }
 {
-    match read_name(names, at) {
-        NameRead::Name { start, len } => &names[start..start + len],
-        NameRead::Refused(_) => &names[..0],
+    match read_name(names, at, Limits::house()) {
+        Ok(name) => &names[name.start..name.start + name.len],
+        Err(_) => &names[..0],
     }
 }
 
@@ -56,9 +31,9 @@ pub fn name_at<'a>(names: &'a [u8], at: usize) -> &'a [u8]
 pub fn after(names: &[u8], at: usize) -> usize
     ensures { result ≡ after_at names.now at }
 {
-    match read_name(names, at) {
-        NameRead::Name { start, len } => start + len,
-        NameRead::Refused(_) => at,
+    match read_name(names, at, Limits::house()) {
+        Ok(name) => name.start + name.len,
+        Err(_) => at,
     }
 }
 
@@ -66,9 +41,9 @@ pub fn after(names: &[u8], at: usize) -> usize
 pub fn begins_at(names: &[u8], k: u64) -> usize
     ensures { result ≡ begins_at names.now k }
 {
-    match name_place(names, k) {
-        NamePlace::At { start, len: _ } => start - 1,
-        NamePlace::Nowhere => names.len(),
+    match name_place(names, k, Limits::house()) {
+        Some(name) => name.start - 1,
+        None => names.len(),
     }
 }
 
@@ -76,8 +51,5 @@ pub fn begins_at(names: &[u8], k: u64) -> usize
 pub fn is_named(names: &[u8], k: u64) -> bool
     ensures { result ≡ is_named names.now k }
 {
-    match name_place(names, k) {
-        NamePlace::At { start: _, len: _ } => true,
-        NamePlace::Nowhere => false,
-    }
+    name_place(names, k, Limits::house()).is_some()
 }

@@ -3,9 +3,11 @@
 ghost use Rattle.std.specs.Prelude.{◌≡◌};
 ghost use Rattle.names.specs.Reading.{next_of, next_at, name_at, after_at, begins_at, name_in};
 
-use crate::place::{NextName, after, begins_at, name_at, next_at};
+use crate::place::{after, begins_at, name_at, next_at};
+use tables::names::NameSpan;
+use tables::refusal::Refusal;
 
-#[derive(Clone, Copy)]
+#[derive(Clone, Copy, Debug, PartialEq, Eq)]
 pub struct NameReader<'a> {
     names: &'a [u8],
     at: usize,
@@ -28,7 +30,7 @@ impl<'a> NameReader<'a> {
     }
 
     // The next name's place and length, or that there is none.
-    pub fn next(self) -> NextName
+    pub fn next(self) -> Result<Option<NameSpan>, Refusal>
         ensures { next_of result ≡ next_at self.entry.names.now self.entry.at }
     {
         next_at(self.names, self.at)

@@ -1,69 +1,13 @@
 // Replays the kept operator cases, data/operators.list, and prints how many there are and how many answers differ.
 #![tactic(auto)]
 
-mod cases; // cases.rt: the lines of the list, and the operator of each
+mod case; // case.rt: a line of the list
+mod operator; // operator.rt: the operators by the codes of their node kinds
 
-use cases::Replay;
-use std::io::Read;
+use case::OperatorCase;
+use kept_lists::replay::replay;
 use std::process::ExitCode;
-use std::rt::Files;
-use std::{fs, io};
-
-// What one read leaves, and whether there may be more.
-#[derive(Drop)]
-enum Turn {
-    More(Replay),
-    End(Replay),
-}
-
-fn read_some<R: Read>(run: Replay, file: &mut R) -> io::Result<Turn> {
-    let mut buffer = [0u8; 65536];
-    let count = file.read(&mut buffer)?;
-    if count == 0 {
-        return Ok(Turn::End(run));
-    }
-    Ok(Turn::More(cases::feed_all(run, &buffer[..count])))
-}
-
-// The list is far shorter than this many reads.
-const TURNS: u64 = 65536;
-
-fn read_list<R: Read>(file: &mut R) -> io::Result<Replay> {
-    let mut run = Replay::new();
-    for _ in 0..TURNS {
-        match read_some(run, file)? {
-            Turn::More(next) => run = next,
-            Turn::End(last) => return Ok(last),
-        }
-    }
-    Err(io::Error::other("too many reads"))
-}
-
-fn open_and_read(rt: &impl Files) -> io::Result<Replay> {
-    let mut file = fs::open(rt, "operators.list")?;
-    read_list(&mut file)
-}
-
-fn report(rt: &impl Print, run: Replay) -> io::Result<()> {
-    if run.malformed || run.open || run.filled != 0 {
-        return println!(rt; "malformed list");
-    }
-    println!(rt; "{} cases, {} wrong", run.cases, run.wrong)
-}
-
-// Says on standard error what failed and why.
-fn fail(rt: &impl Eprint, what: &str, why: io::Error) -> ExitCode {
-    let _ = eprintln!(rt; "{what}: {why}");
-    ExitCode::FAILURE
-}
 
 fn main(rt: HostRuntime) -> ExitCode {
-    let run = match open_and_read(&rt) {
-        Ok(run) => run,
-        Err(why) => return fail(&rt, "operators.list", why),
-    };
-    match report(&rt, run) {
-        Ok(()) => ExitCode::SUCCESS,
-        Err(why) => fail(&rt, "standard output", why),
-    }
+    replay::<OperatorCase, _>(&rt, "operators.list")
 }

@@ -1,9 +1,12 @@
 -- Chains of questions: what the code asks one after the other is the rules' chain, whose first yes ends the asking.
 -- Assumes nothing.
 use Prim.Native.Nat.{ℕ, ◌+◌}
-use mathlib.Core.Path.{◌≡◌, refl, ap, sym, ◌∙◌, fun_ext}
+use mathlib.Core.Path.{◌≡◌, refl, ap, sym, subst, ◌∙◌, fun_ext}
 use mathlib.Core.Bool.{Bool, true, false}
 use mathlib.Core.List.{List, []}
+use native.Mathlib.Omega.{arith}
+use lib.ListN.{length}
+use Rattle.std.specs.Prelude.{Result, Ok, Err, IsErrAnd}
 use lib.Dec.{eqb}
 use borrow.Author.Tests.{eq-eqb, ne_eqb}
 use Rattle.rules.specs.Refusal.{Refusal, Out, refused, done, ◌>>=◌}
@@ -14,13 +17,15 @@ use Rattle.rules.proofs.Base.{no}
 use Rattle.rules.specs.Visit.{Ways, settle}
 use Rattle.tables.specs.declared.refusal.Refusal as tables
 use Rattle.tables.specs.Refusals.{refusal_of}
-use Rattle.optimize.specs.declared.walk.Walk.{Walk}
 use Rattle.optimize.specs.declared.fold.Folded.{Folded}
-use Rattle.optimize.specs.declared.smt_solver.Asked.{Asked}
-use Rattle.optimize.specs.View.{table_of, view, outcome_of, fold_is}
-use Rattle.optimize.specs.Counters.{walk_in, refused_in, refusal_in, with_walk, with_refusal, answer_in}
-use Rattle.optimize.specs.Process.{asked_of, asked_by, solved_of, is_stays, then_ask, then_ask_at, settle_then}
-use Rattle.optimize.proofs.CounterLaws.{stopped, refused-with, refusal-with, still-goes, walk_put}
+use Rattle.optimize.specs.declared.reply.Reply.{Reply}
+use Rattle.optimize.specs.declared.call.Call.{Call}
+use Rattle.optimize.specs.declared.folder.ConstantFolder.{ConstantFolder}
+use Rattle.optimize.specs.Bounds.{count_of}
+use Rattle.optimize.specs.View.{table_of, outcome_of, fold_is}
+use Rattle.optimize.specs.Folder.{given_in, count_in, seen}
+use Rattle.optimize.specs.Call.{ways_of}
+use Rattle.optimize.specs.Process.{reply_is, solved_of, is_stays, then_ask, then_ask_at, settle_then}
 
 module _ (n q x y : ℕ) (F : Fold) (σ : St) where
   pub or_yes : (σ' : St) (r : ℕ) → ask n σ q x y [] ≡ done (σ', r) → r ≡ 1 → ask_or n q x y F quiet σ ≡ done (σ', F)
@@ -96,75 +101,72 @@ pub ask-goes : (count : ℕ) (q x y : ℕ) (F G : Fold) (σ : St) → is_stays G
 unfolding then_ask_at
 ask-goes count q x y F G σ e = rw (is-stay G e)
 
--- ---- by the counters
-module _ (h : List Held) (g inputs replies R S : List ℕ) (C : List ℕ) where
-  pub asked-stop : (a : ℕ) → refused_in C ≡ true → asked_by h g inputs replies a C R S ≡ refused (refusal_of (refusal_in C))
-  unfolding asked_by
-  asked-stop a e = ap (λ b. elim b [ true ↦ refused (refusal_of (refusal_in C)) | false ↦ done (view h g inputs replies R S (walk_in C), a) ]) e
+-- a reply that is no yes
+pub no-yes : (r : Reply) → (r ≡ Reply.Yes → ⊥) → reply_is r ≡ 1 → ⊥
+no-yes Reply.No a e = omega (arith, e)
+no-yes Reply.Yes a e = a refl
+no-yes Reply.Satisfiable a e = omega (arith, e)
 
-  pub asked-goes : (a : ℕ) → refused_in C ≡ false → asked_by h g inputs replies a C R S ≡ done (view h g inputs replies R S (walk_in C), a)
-  unfolding asked_by
-  asked-goes a e = ap (λ b. elim b [ true ↦ refused (refusal_of (refusal_in C)) | false ↦ done (view h g inputs replies R S (walk_in C), a) ]) e
-
-  pub solved_stop : (f : Folded) → refused_in C ≡ true → solved_of h g inputs replies f C R S ≡ refused (refusal_of (refusal_in C))
-  unfolding solved_of
-  solved_stop f e = ap (λ b. elim b [ true ↦ refused (refusal_of (refusal_in C)) | false ↦ done (view h g inputs replies R S (walk_in C), fold_is f) ]) e
-
-  pub solved_goes : (f : Folded) → refused_in C ≡ false → solved_of h g inputs replies f C R S ≡ done (view h g inputs replies R S (walk_in C), fold_is f)
-  unfolding solved_of
-  solved_goes f e = ap (λ b. elim b [ true ↦ refused (refusal_of (refusal_in C)) | false ↦ done (view h g inputs replies R S (walk_in C), fold_is f) ]) e
-
-  pub asked-of-refused : (a : ℕ) (z : tables.Refusal) → z ≡ refusal_in C → refused_in C ≡ true → asked_of h g inputs replies (Asked.Refused z) R S ≡ asked_by h g inputs replies a C R S
-  unfolding asked_of
-  asked-of-refused a z e r = ap (λ t. refused (refusal_of t)) e ∙ sym (asked-stop a r)
-
-  pub asked-of-reply : (a : ℕ) (w : Walk) → w ≡ walk_in C → refused_in C ≡ false → asked_of h g inputs replies (Asked.Reply w a) R S ≡ asked_by h g inputs replies a C R S
-  unfolding asked_of
-  asked-of-reply a w e r = ap (λ (t : Walk). done (view h g inputs replies R S t, a)) e ∙ sym (asked-goes a r)
-
+-- ---- by what a question answered, among so many nodes
+module _ (nodes : ℕ) (σ τ : St) (n q x y : ℕ) (F : Fold) where
   -- a reply 1 gives the fold, any other leaves the node as it stays, a refusal ends the asking
-  module _ (n q x y : ℕ) (σ : St) (a : ℕ) (e : asked_by h g inputs replies a C R S ≡ ask n σ q x y []) where
-    pub yes_in : (f : Folded) → a ≡ 1 → solved_of h g inputs replies f C R S ≡ ask_or n q x y (fold_is f) quiet σ
-    yes_in f d = go (refused_in C) refl
-      where
-        go : (b : Bool) → refused_in C ≡ b → solved_of h g inputs replies f C R S ≡ ask_or n q x y (fold_is f) quiet σ
-        go true r = solved_stop f r ∙ sym (or-stop n q x y (fold_is f) σ _ (sym e ∙ asked-stop a r))
-        go false r = solved_goes f r ∙ sym (or_yes n q x y (fold_is f) σ _ a (sym e ∙ asked-goes a r) d)
+  pub stop_in : (z : tables.Refusal) → outcome_of τ (Err z) ≡ ask n σ q x y [] → solved_of nodes τ (Err z) ≡ ask_or n q x y F quiet σ
+  unfolding outcome_of solved_of
+  stop_in z e = sym (or-stop n q x y F σ (refusal_of z) (sym e))
 
-    pub no_in : (F : Fold) → (a ≡ 1 → ⊥) → solved_of h g inputs replies Folded.Stays C R S ≡ ask_or n q x y F quiet σ
-    no_in F d = go (refused_in C) refl
-      where
-        go : (b : Bool) → refused_in C ≡ b → solved_of h g inputs replies Folded.Stays C R S ≡ ask_or n q x y F quiet σ
-        go true r = solved_stop Folded.Stays r ∙ sym (or-stop n q x y F σ _ (sym e ∙ asked-stop a r))
-        go false r = solved_goes Folded.Stays r ∙ sym (or_no n q x y F σ _ a (sym e ∙ asked-goes a r) d)
+  pub yes_in : (f : Folded) (a : ℕ) → outcome_of τ (Ok a) ≡ ask n σ q x y [] → a ≡ 1 → fold_is nodes f ≡ F → solved_of nodes τ (Ok f) ≡ ask_or n q x y F quiet σ
+  unfolding outcome_of solved_of
+  yes_in f a e d i = ap (λ G. done (τ, G)) i ∙ sym (or_yes n q x y F σ τ a (sym e) d)
 
-  -- one more question after what was asked before
-  module _ (n q x y : ℕ) (F : Fold) (f : Folded) where
-    pub stop_in : refused_in C ≡ true → solved_of h g inputs replies f C R S ≡ then_ask n q x y F (solved_of h g inputs replies f C R S)
-    stop_in r = solved_stop f r ∙ sym (ap (then_ask n q x y F) (solved_stop f r))
+  pub no_in : (a : ℕ) → outcome_of τ (Ok a) ≡ ask n σ q x y [] → (a ≡ 1 → ⊥) → solved_of nodes τ (Ok Folded.Stays) ≡ ask_or n q x y F quiet σ
+  unfolding outcome_of solved_of
+  no_in a e d = sym (or_no n q x y F σ τ a (sym e) d)
 
-    pub over-in : refused_in C ≡ false → is_stays (fold_is f) ≡ false → solved_of h g inputs replies f C R S ≡ then_ask n q x y F (solved_of h g inputs replies f C R S)
-    over-in r i = solved_goes f r ∙ ask-over n q x y F (fold_is f) _ i ∙ sym (ap (then_ask n q x y F) (solved_goes f r))
+  -- one more question, after a fold
+  pub over-in : (f : Folded) → is_stays (fold_is nodes f) ≡ false → solved_of nodes σ (Ok f) ≡ then_ask_at n q x y F (fold_is nodes f) σ
+  unfolding solved_of
+  over-in f i = ask-over n q x y F (fold_is nodes f) σ i
 
-    pub goes_in : refused_in C ≡ false → is_stays (fold_is f) ≡ true → (o : Out (St × Fold)) → o ≡ ask_or n q x y F quiet (view h g inputs replies R S (walk_in C))
-        → o ≡ then_ask n q x y F (solved_of h g inputs replies f C R S)
-    goes_in r i o e = e ∙ ask-goes n q x y F (fold_is f) _ i ∙ sym (ap (then_ask n q x y F) (solved_goes f r))
+-- a chain of questions goes on with one more
+module _ (nodes n q x y : ℕ) (F : Fold) (o : Out (St × Fold)) (τ : St) where
+  pub chain-stop : (υ : St) (z : tables.Refusal) → solved_of nodes τ (Err z) ≡ o → solved_of nodes υ (Err z) ≡ then_ask n q x y F o
+  unfolding solved_of
+  chain-stop υ z e = ap (then_ask n q x y F) e
 
-  -- what the questions gave is recorded
-  pub settled-stop : (ways : Ways) (k x : ℕ) (f : Folded) → refused_in C ≡ true → outcome_of h g inputs replies (answer_in x C) R S ≡ settle_then g ways k (solved_of h g inputs replies f C R S)
-  unfolding outcome_of
-  settled-stop ways k x f r = ap (λ v. outcome_of h g inputs replies v R S) (stopped true x C (sym r) refl) ∙ sym (ap (settle_then g ways k) (solved_stop f r))
+  chain-goes : (f : Folded) (υ : St) (r : Result Folded tables.Refusal) → solved_of nodes τ (Ok f) ≡ o
+      → solved_of nodes υ r ≡ then_ask_at n q x y F (fold_is nodes f) τ → solved_of nodes υ r ≡ then_ask n q x y F o
+  unfolding solved_of
+  chain-goes f υ r e d = d ∙ ap (then_ask n q x y F) e
 
-  pub settled-goes : (ways : Ways) (k : ℕ) (f : Folded) (o : Out (St × ℕ)) → refused_in C ≡ false → o ≡ settle (table_of g) ways k (view h g inputs replies R S (walk_in C)) (fold_is f)
-      → o ≡ settle_then g ways k (solved_of h g inputs replies f C R S)
-  settled-goes ways k f o r e = e ∙ sym (ap (settle_then g ways k) (solved_goes f r))
+-- what the questions gave is recorded
+module _ (nodes : ℕ) (g : List ℕ) (ways : Ways) (k : ℕ) (o : Out (St × Fold)) (τ : St) where
+  pub settled-stop : (υ : St) (z : tables.Refusal) → solved_of nodes τ (Err z) ≡ o → outcome_of υ (Err z) ≡ settle_then g ways k o
+  unfolding solved_of outcome_of
+  settled-stop υ z e = ap (settle_then g ways k) e
 
--- a question put into the counters
-module _ (h : List Held) (g inputs replies R S : List ℕ) (C C' : List ℕ) (a : ℕ) where
-  pub asked_refuses : (z : tables.Refusal) → C' ≡ with_refusal (refusal_of z) C → asked_by h g inputs replies a C' R S ≡ asked_of h g inputs replies (Asked.Refused z) R S
-  unfolding asked_of
-  asked_refuses z e = asked-stop h g inputs replies R S C' a (refused-with z C C' e) ∙ ap refused (refusal-with z C C' e)
+  settled_goes : (f : Folded) (υ : St) (r : Result ℕ tables.Refusal) → solved_of nodes τ (Ok f) ≡ o
+      → outcome_of υ r ≡ settle (table_of g) ways k τ (fold_is nodes f) → outcome_of υ r ≡ settle_then g ways k o
+  unfolding solved_of
+  settled_goes f υ r e d = d ∙ ap (settle_then g ways k) e
 
-  pub asked-replies : (w : Walk) → C' ≡ with_walk w C → refused_in C ≡ false → asked_by h g inputs replies a C' R S ≡ asked_of h g inputs replies (Asked.Reply w a) R S
-  unfolding asked_of
-  asked-replies w e r = asked-goes h g inputs replies R S C' a (still-goes w C C' e r) ∙ ap (λ (t : Walk). done (view h g inputs replies R S t, a)) (walk_put w C C' e)
+-- from a folder of the same call
+module _ (f f₁ f₂ : ConstantFolder) (same : f₁.call ≡ f.call) where
+  pub solved-settles : (k x : ℕ) (F : Folded) (o : Out (St × Fold)) (h : List Held) → solved_of (count_in f) (seen h f₁) (Ok F) ≡ o
+      → outcome_of (seen h f₂) (Ok x) ≡ settle (table_of (given_in f₁)) (ways_of f₁.call) k (seen h f₁) (fold_is (count_in f₁) F)
+      → outcome_of (seen h f₂) (Ok x) ≡ settle_then (given_in f) (ways_of f.call) k o
+  solved-settles k x F o h e d =
+      settled_goes (count_in f) (given_in f) (ways_of f.call) k o (seen h f₁) F (seen h f₂) (Ok x) e
+      (d ∙ ap (λ (c : Call). settle (table_of c.given.now) (ways_of c) k (seen h f₁) (fold_is (count_of c.given.now) F)) same)
+
+  -- one more question
+  pub chain-next : (q x y : ℕ) (F G : Folded) (r : Result Folded tables.Refusal) (o : Out (St × Fold)) (h : List Held) → solved_of (count_in f) (seen h f₁) (Ok G) ≡ o
+      → solved_of (count_in f₁) (seen h f₂) r ≡ then_ask_at (length f₁.call.replies.now) q x y (fold_is (count_in f₁) F) (fold_is (count_in f₁) G) (seen h f₁)
+      → solved_of (count_in f) (seen h f₂) r ≡ then_ask (length f.call.replies.now) q x y (fold_is (count_in f) F) o
+  chain-next q x y F G r o h e d =
+      chain-goes (count_in f) (length f.call.replies.now) q x y (fold_is (count_in f) F) o (seen h f₁) G (seen h f₂) r e
+      (subst (λ (c : Call). solved_of (count_of c.given.now) (seen h f₂) r ≡ then_ask_at (length c.replies.now) q x y (fold_is (count_of c.given.now) F) (fold_is (count_of c.given.now) G) (seen h f₁)) same d)
+
+-- the error of a `?` is handed on as it is
+pub raised : {A : Type 0} (r : Result A tables.Refusal) (z : tables.Refusal) → IsErrAnd r (λ e. e ≡ z) → r ≡ Err z
+raised (Ok x) z h = absurd h
+raised (Err y) z h = ap Err h

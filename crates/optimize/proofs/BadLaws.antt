@@ -1,17 +1,15 @@
--- Judging bads: by the reply, by the condition, one after the other; and what a judged bad leaves for the next.
+-- Judging bads: by the condition, one after the other; and what a judged bad leaves for the next.
 -- Assumes nothing.
-use Prim.Native.Nat.{ℕ, suc, ◌+◌, ◌-◌, ◌<◌, ◌≤◌}
+use Prim.Native.Nat.{ℕ, suc, ◌+◌, ◌<◌, ◌≤◌}
 use mathlib.Core.Path.{◌≡◌, refl, ap, ap₂, sym, ◌∙◌, subst}
-use mathlib.Core.Bool.{Bool, true, false, cond, ◌&&◌}
+use mathlib.Core.Bool.{Bool, true, false, cond}
 use mathlib.Core.Option.{Option}
 use mathlib.Core.List.{List, [], ◌∷◌, ◌++◌, append_assoc, append-nil}
 use native.Mathlib.Numerals.{add-one}
 use native.Mathlib.Omega.{arith}
 use lib.ListN.{length, get_or, take, drop, set, drop_of_length-le}
-use lib.Dec.{eqb}
-use lib.Seq.{take-set-le, take-take, drop-cons, get_or-take}
-use borrow.Author.Tests.{eq-eqb, ne_eqb}
-use Rattle.rules.specs.Model.{Mode}
+use lib.Seq.{drop-cons}
+use Rattle.std.specs.Prelude.{Result, Ok, Err, OnOk}
 use Rattle.rules.specs.Refusal.{Out, refused, done, refuse, ◌>>=◌}
 use Rattle.rules.specs.Table.{Node}
 use Rattle.rules.specs.Legal.{BadEntry}
@@ -19,7 +17,7 @@ use Rattle.rules.specs.Room.{unpaid}
 use Rattle.rules.specs.Walk.{St, Held}
 use Rattle.rules.specs.Fold.{const_of, is_const}
 use Rattle.rules.specs.Questions.{ask}
-use Rattle.rules.specs.Visit.{Ways, visit, visit_top}
+use Rattle.rules.specs.Visit.{Ways, visit_top}
 use Rattle.rules.specs.Whole as whole
 use Rattle.rules.specs.Whole.{Bads, Judgement, noted, judge_bad}
 use Rattle.rules.specs.Fine.{fee}
@@ -27,58 +25,41 @@ use Rattle.rules.proofs.Base.{If}
 use Rattle.rules.proofs.Walked.{Walked, Goes, bads_walked}
 use Rattle.tables.specs.declared.refusal.Refusal.{Refusal}
 use Rattle.tables.specs.Refusals.{refusal_of}
-use Rattle.optimize.specs.declared.walk.Walk.{Walk}
-use Rattle.optimize.specs.declared.walk.Visited.{Visited}
-use Rattle.optimize.specs.declared.smt_solver.Asked.{Asked}
 use Rattle.optimize.specs.declared.bads.Judging.{Judging}
-use Rattle.optimize.specs.declared.bads.Retained.{Retained}
-use Rattle.optimize.specs.declared.bads.Judged.{Judged}
+use Rattle.optimize.specs.declared.call.Call.{Call}
+use Rattle.optimize.specs.declared.folder.ConstantFolder.{ConstantFolder}
 use Rattle.optimize.specs.Bounds.{count_of}
 use Rattle.rules.specs.Sections.{word_of}
-use Rattle.optimize.specs.View.{table_of, ways_in, rows_of, mark_of, question_of, view, outcome_of, Meets}
-use Rattle.optimize.specs.Process.{asked_of, visit_of}
-use Rattle.optimize.specs.Laid.{Laid, Visits}
-use Rattle.optimize.specs.Lists.{entries_of}
-use Rattle.optimize.specs.Bads.{Spare, judgement, retained_of, judged_of, reply_rule, bad_rule, visited_rule, retain_rule, list_rule, Retains, KeptIf}
+use Rattle.optimize.specs.View.{table_of, mark_of, question_of, view, outcome_of}
+use Rattle.optimize.specs.Call.{mode_is, ways_of}
+use Rattle.optimize.specs.Folder.{given_in, count_in, rows_in, seen, Keeps, LaidIn}
+use Rattle.optimize.specs.Laid.{Laid}
+use Rattle.optimize.specs.Bads.{Spare, SpareIn, judgement, retained_of, judged_of, reply_rule, bad_rule, visited_rule, retain_rule, list_rule}
+use Rattle.optimize.specs.Clauses.{Walks, RetainsBad, JudgesBads}
 use Rattle.optimize.proofs.Views.{row_below, firsts-length}
 use Rattle.optimize.proofs.Steps.{table-length}
-use Rattle.optimize.proofs.Walks.{came-done}
-use Rattle.optimize.proofs.Keeps.{asked-kept}
 use Rattle.optimize.proofs.Forms.{assoc, bind_same}
-use Rattle.optimize.proofs.Entries.{entries-more, same-entry, later_same}
-
--- ---- by the reply
-module _ (g : List ℕ) (ways : Ways) (how : Judging) (place : ℕ) (σ : St) (r : ℕ) where
-  abbrev by_tests : Bool → Bool → Out (St × Judgement)
-  by_tests one two = elim one [ true ↦ done (σ, whole.drop) | false ↦ elim two [ true ↦ refuse 14 how.section place | false ↦ done (σ, whole.stay) ] ]
-
-  pub reply_drops : r ≡ 1 → done (σ, whole.drop) ≡ reply_rule g ways how place σ r
-  reply_drops e = sym (ap (λ a. by_tests a (eqb r 2 && how.terminate)) (eq-eqb r 1 e))
-
-  module _ (d : r ≡ 1 → ⊥) where
-    pub reply_refuses : r ≡ 2 → how.terminate ≡ true → refuse 14 how.section place ≡ reply_rule g ways how place σ r
-    reply_refuses e t = sym (ap₂ by_tests (ne_eqb r 1 d) (ap₂ ◌&&◌ (eq-eqb r 2 e) t))
-
-    pub reply-keeps : r ≡ 2 → how.terminate ≡ false → done (σ, whole.stay) ≡ reply_rule g ways how place σ r
-    reply-keeps e t = sym (ap₂ by_tests (ne_eqb r 1 d) (ap₂ ◌&&◌ (eq-eqb r 2 e) t))
-
-    pub reply-none : (r ≡ 2 → ⊥) → done (σ, whole.stay) ≡ reply_rule g ways how place σ r
-    reply-none e = sym (ap₂ by_tests (ne_eqb r 1 d) (ap (λ b. b && how.terminate) (ne_eqb r 2 e)))
+use Rattle.optimize.proofs.Entries.{entries-more}
+use Rattle.optimize.proofs.VisitLaws.{visited-top}
+use Rattle.optimize.proofs.Keeps.{asked-kept, seen_by, visited}
 
 -- ---- by the condition
-module _ (h : List Held) (g inputs replies R S : List ℕ) (w : Walk) (ways : Ways) (how : Judging) (place c : ℕ) (x : Option ℕ) (e : x ≡ const_of (rows_of (count_of g) w.made R) c) where
+module _ (f : ConstantFolder) (how : Judging) (place c : ℕ) (h : List Held) (x : Option ℕ) (e : x ≡ const_of (rows_in f) c) where
   abbrev σ : St
-  σ = view h g inputs replies R S w
+  σ = seen h f
+
+  abbrev rule : Out (St × Judgement)
+  rule = bad_rule (given_in f) (ways_of f.call) how place σ c
 
   abbrev judge : Option ℕ → Out (St × Judgement)
-  judge y = judge_bad (table_of g) ways how.solver how.terminate how.section place σ c y
+  judge y = judge_bad (table_of (given_in f)) (ways_of f.call) how.solver how.terminate how.section place σ c y
 
-  bad-is : judge x ≡ bad_rule g ways how place σ c
+  bad-is : judge x ≡ rule
   unfolding view
   bad-is = ap judge e
 
   abbrev asked : Out (St × Judgement)
-  asked = ask ways.reply_count σ 4 c 0 [] >>= λ p. reply_rule g ways how place p.0 p.1
+  asked = ask (length f.call.replies.now) σ 4 c 0 [] >>= λ p. reply_rule (given_in f) (ways_of f.call) how place p.0 p.1
 
   abbrev by_flags : Bool → Bool → Bool → Bool → Out (St × Judgement)
   by_flags zero? one? terminate solver =
@@ -90,81 +71,51 @@ module _ (h : List Held) (g inputs replies R S : List ℕ) (w : Walk) (ways : Wa
         ]
       ]
 
-  pub bad-zero : is_const x 0 ≡ true → done (σ, whole.drop) ≡ bad_rule g ways how place σ c
+  pub bad-zero : is_const x 0 ≡ true → done (σ, whole.drop) ≡ rule
   bad-zero z = sym (ap (λ b. by_flags b (is_const x 1) how.terminate how.solver) z) ∙ bad-is
 
   module _ (z : is_const x 0 ≡ false) where
-    pub bad-refused : is_const x 1 ≡ true → how.terminate ≡ true → refuse 13 how.section place ≡ bad_rule g ways how place σ c
+    pub bad-refused : is_const x 1 ≡ true → how.terminate ≡ true → refuse 13 how.section place ≡ rule
     bad-refused o t = sym (ap (λ b. by_flags b (is_const x 1) how.terminate how.solver) z ∙ ap₂ (λ b d. by_flags false b d how.solver) o t) ∙ bad-is
 
-    pub bad_one : is_const x 1 ≡ true → how.terminate ≡ false → done (σ, whole.stay) ≡ bad_rule g ways how place σ c
+    pub bad_one : is_const x 1 ≡ true → how.terminate ≡ false → done (σ, whole.stay) ≡ rule
     bad_one o t = sym (ap (λ b. by_flags b (is_const x 1) how.terminate how.solver) z ∙ ap₂ (λ b d. by_flags false b d how.solver) o t) ∙ bad-is
 
-    pub bad-unasked : is_const x 1 ≡ false → how.solver ≡ false → done (σ, whole.stay) ≡ bad_rule g ways how place σ c
-    bad-unasked o t = sym (ap (λ b. by_flags b (is_const x 1) how.terminate how.solver) z ∙ ap₂ (λ b d. by_flags false b how.terminate d) o t) ∙ bad-is
+    module _ (o : is_const x 1 ≡ false) where
+      pub bad-unasked : how.solver ≡ false → done (σ, whole.stay) ≡ rule
+      bad-unasked t = sym (ap (λ b. by_flags b (is_const x 1) how.terminate how.solver) z ∙ ap₂ (λ b d. by_flags false b how.terminate d) o t) ∙ bad-is
 
-    asks : is_const x 1 ≡ false → how.solver ≡ true → asked ≡ bad_rule g ways how place σ c
-    asks o t = sym (ap (λ b. by_flags b (is_const x 1) how.terminate how.solver) z ∙ ap₂ (λ b d. by_flags false b how.terminate d) o t) ∙ bad-is
+      asks : how.solver ≡ true → asked ≡ rule
+      asks t = sym (ap (λ b. by_flags b (is_const x 1) how.terminate how.solver) z ∙ ap₂ (λ b d. by_flags false b how.terminate d) o t) ∙ bad-is
 
-    module _ (o : is_const x 1 ≡ false) (t : how.solver ≡ true) (a : Asked) (T : List ℕ) (i : asked_of h g inputs replies a R T ≡ ask ways.reply_count σ 4 c 0 []) where
-      pub bad_replied : (w' : Walk) (r : ℕ) → a ≡ Asked.Reply w' r → reply_rule g ways how place (view h g inputs replies R T w') r ≡ bad_rule g ways how place σ c
-      unfolding asked_of
-      bad_replied w' r d =
-          let q : done (view h g inputs replies R T w', r) ≡ ask ways.reply_count σ 4 c 0 [] = sym (ap (λ z. asked_of h g inputs replies z R T) d) ∙ i in
-          ap (λ (u : Out (St × ℕ)). u >>= λ p. reply_rule g ways how place p.0 p.1) q ∙ asks o t
+      pub bad_replied : how.solver ≡ true → (τ : St) (r : ℕ) → outcome_of τ (Ok r) ≡ ask (length f.call.replies.now) σ 4 c 0 []
+          → (a : Result Bool Refusal) → retained_of τ a ≡ reply_rule (given_in f) (ways_of f.call) how place τ r → retained_of τ a ≡ rule
+      unfolding outcome_of
+      bad_replied t τ r q a d = d ∙ ap (λ (u : Out (St × ℕ)). u >>= λ p. reply_rule (given_in f) (ways_of f.call) how place p.0 p.1) q ∙ asks t
 
-      pub bad_stopped : (v : Refusal) → a ≡ Asked.Refused v → refused (refusal_of v) ≡ bad_rule g ways how place σ c
-      unfolding asked_of
-      bad_stopped v d =
-          let q : ◌≡◌ {A = Out (St × ℕ)} (refused (refusal_of v)) (ask ways.reply_count σ 4 c 0 []) = sym (ap (λ z. asked_of h g inputs replies z R T) d) ∙ i in
-          ap (λ (u : Out (St × ℕ)). u >>= λ p. reply_rule g ways how place p.0 p.1) q ∙ asks o t
+      pub bad_stopped : how.solver ≡ true → (τ υ : St) (v : Refusal) → outcome_of τ (Err v) ≡ ask (length f.call.replies.now) σ 4 c 0 [] → retained_of υ (Err v) ≡ rule
+      unfolding outcome_of retained_of
+      bad_stopped t τ υ v q = ap (λ (u : Out (St × ℕ)). u >>= λ p. reply_rule (given_in f) (ways_of f.call) how place p.0 p.1) q ∙ asks t
 
 -- ---- a bad judged by what its visit came to
-module _ (h : List Held) (g inputs replies : List ℕ) (ways : Ways) (how : Judging) (place b : ℕ) (v : Visited) (R S : List ℕ) where
-  pub retain_done : (w : Walk) (a : ℕ) → v ≡ Visited.Done w a → b < count_of g → (c : ℕ) → c ≡ word_of R b 2
-      → bad_rule g ways how place (view h g inputs replies R S w) c ≡ visited_rule g ways how place b (outcome_of h g inputs replies v R S)
+module _ (f f' : ConstantFolder) (how : Judging) (place b : ℕ) (r : Result ℕ Refusal) (v : Walks f f' r (b + 1) (λ g ways vis σ. vis σ b)) where
+  pub retain_refused : (z : Refusal) → r ≡ Err z → RetainsBad f f' how place b (Err z)
+  unfolding outcome_of retained_of
+  retain_refused z e = λ h. let m = visited-top f f' b r v h in
+      (m.0, ap (visited_rule (given_in f) (ways_of f.call) how place b) (sym (ap (outcome_of (seen m.0 f')) e) ∙ m.1))
+
+  pub retain_done : (a : ℕ) → r ≡ Ok a → f'.call ≡ f.call → b < count_in f → (c : ℕ) → c ≡ word_of f'.res.now b 2 → (f'' : ConstantFolder) (s : Result Bool Refusal)
+      → ((h : List Held) → retained_of (seen h f'') s ≡ bad_rule (given_in f') (ways_of f'.call) how place (seen h f') c) → RetainsBad f f'' how place b s
   unfolding view outcome_of
-  retain_done w a e l c d =
-      ap (bad_rule g ways how place (view h g inputs replies R S w)) (d ∙ sym (ap (λ (nd : Node). nd.a) (row_below (count_of g) w.made R b l)))
-      ∙ sym (ap (λ (z : Visited). visited_rule g ways how place b (outcome_of h g inputs replies z R S)) e)
-
-  pub retain_refused : (z : Refusal) → v ≡ Visited.Refused z → refused (refusal_of z) ≡ visited_rule g ways how place b (outcome_of h g inputs replies v R S)
-  unfolding outcome_of
-  retain_refused z e = sym (ap (λ (y : Visited). visited_rule g ways how place b (outcome_of h g inputs replies y R S)) e)
-
--- visited and then judged, it is retained as the rules say
-pub retains : (g dumps inputs replies : List ℕ) (mode : Mode) (how : Judging) (place b : ℕ) (R S Q T U : List ℕ) (w : Walk) (v : Visited) (r : Retained)
-    → Visits g inputs replies R S w v Q T (b + 1) (λ f σ. visit_of g (ways_in dumps mode replies) f σ b)
-    → ((h : List Held) → retained_of h g inputs replies r Q U ≡ visited_rule g (ways_in dumps mode replies) how place b (outcome_of h g inputs replies v Q T))
-    → Retains g inputs replies R S w r Q U (retain_rule g (ways_in dumps mode replies) how place b)
-retains g dumps inputs replies mode how place b R S Q T U w v r visits judges =
-    let ways : Ways = ways_in dumps mode replies in
-    λ h. let m = visits h (b + 1) (omega arith) in (
-      m.0,
-      judges m.0 ∙ ap (visited_rule g ways how place b) (m.1 ∙ ap (λ f. visit (table_of g) ways f (view h g inputs replies R S w) b) (add-one b)),
-    )
-
--- room for more questions stays through a visit
-pub spare-visited : (g dumps inputs replies : List ℕ) (mode : Mode) (reserve : ℕ) (R S Q T : List ℕ) (w w' : Walk) (k a c : ℕ) (r : Visited) (l : Laid g dumps inputs replies mode reserve R S w) → k < count_of g
-    → ((h : List Held) (f : ℕ) → k + 1 ≤ f → Meets g inputs replies r Q T (visit_of g (ways_in dumps mode replies) f (view h g inputs replies R S w) k)) → r ≡ Visited.Done w' a
-    → length T ≡ length S → Spare reserve g S w c → Spare reserve g T w' c
-spare-visited g dumps inputs replies mode reserve R S Q T w w' k a c r l i v e q s =
-    let z = v l.held (k + 1) (omega arith) in
-    let d = came-done g inputs replies Q T r (visit_of g (ways_in dumps mode replies) (k + 1) (view l.held g inputs replies R S w) k) z w' a e in
-    omega (arith, s, asked-kept g dumps inputs replies mode reserve R S Q T w w' (k + 1) k a z.0 l i d)
-
--- ---- an entry that stays
-pub kept_entry : (S T : List ℕ) (list kept entry : ℕ) (stays : Bool) → T ≡ set S (list + kept) entry → list + kept < length S → stays ≡ true → KeptIf S T list kept entry stays (kept + 1)
-kept_entry S T list kept entry stays e l t =
-    record {
-      entries = ap (λ z. entries_of z list (kept + 1)) e ∙ entries-more S list kept entry l ∙ ap (λ b. entries_of S list kept ++ cond b (entry ∷ []) []) (sym t);
-      front = ap (take list) e ∙ take-set-le list S (list + kept) entry (omega arith);
-      few = omega arith;
-    }
-
-pub no-entry : (S : List ℕ) (list kept entry : ℕ) (stays : Bool) → stays ≡ false → KeptIf S S list kept entry stays kept
-no-entry S list kept entry stays t =
-    record { entries = sym (append-nil (entries_of S list kept)) ∙ ap (λ b. entries_of S list kept ++ cond b (entry ∷ []) []) (sym t); front = refl; few = omega arith }
+  retain_done a e same l c d f'' s judged = λ h.
+      let m = visited-top f f' b r v h in
+      let l' : b < count_in f' = subst (λ (k : Call). b < count_of k.given.now) (sym same) l in (
+        m.0,
+        judged m.0
+            ∙ ap (bad_rule (given_in f') (ways_of f'.call) how place (seen m.0 f')) (d ∙ sym (ap (λ (nd : Node). nd.a) (row_below (count_in f') f'.walk.made f'.res.now b l')))
+            ∙ ap (λ (k : Call). bad_rule k.given.now (ways_of k) how place (seen m.0 f') ((seen m.0 f').rows b).a) same
+            ∙ ap (visited_rule (given_in f) (ways_of f.call) how place b) (sym (ap (outcome_of (seen m.0 f')) e) ∙ m.1),
+      )
 
 -- ---- a list, one by one
 abbrev pub before : List ℕ → List ℕ → Bads → Bads
@@ -207,129 +158,141 @@ list_start (refused z) = refl
 list_start (done r) = refl
 
 -- ---- what a judged bad leaves
-module _ (g dumps inputs replies : List ℕ) (mode : Mode) (reserve : ℕ) (R S Q T : List ℕ) (w w' : Walk) (how : Judging) (i b : ℕ) (r : Retained) (stays : Bool) (l : Laid g dumps inputs replies mode reserve R S w)
-    (bad : BadEntry (table_of g) b) (v : Retains g inputs replies R S w r Q T (retain_rule g (ways_in dumps mode replies) how i b)) (e : r ≡ Retained.Done w' stays) where
-  abbrev ways : Ways
-  ways = ways_in dumps mode replies
+abbrev SpareBy : Call → ConstantFolder → ℕ → Type 0
+SpareBy c f' d = Spare 0 c.given.now f'.scratch.now f'.walk d
 
-  pub retained_is : (h : List Held) → retain_rule g ways how i b (view h g inputs replies R S w) ≡ done (view (v h).0 g inputs replies Q T w', judgement stays)
+abbrev LaidBy : Call → ConstantFolder → Type 0
+LaidBy c f' = Laid c.given.now c.dumps.now c.inputs.now c.replies.now (mode_is c.mode) 0 f'.res.now f'.scratch.now f'.walk
+
+-- room for more questions stays through a visit
+pub spare-visited : (f f' : ConstantFolder) (k a c : ℕ) → Keeps f f' → LaidIn f → k < count_in f → Walks f f' (Ok a) (k + 1) (λ g ways vis σ. vis σ k) → SpareIn f c → SpareIn f' c
+spare-visited f f' k a c e l i v s =
+    let p = visited f f' k a e l i v in
+    let q = asked-kept f.call.given.now f.call.dumps.now f.call.inputs.now f.call.replies.now (mode_is f.call.mode) 0 f.res.now f.scratch.now f'.res.now f'.scratch.now f.walk f'.walk (k + 1) k a p.0 l i p.1 in
+    let t : SpareBy f.call f' c = omega (arith, s, q, e.scratch_length) in
+    subst (λ d. SpareBy d f' c) (sym e.call) t
+
+module _ (f f' : ConstantFolder) (how : Judging) (i b : ℕ) (stays : Bool) (l : LaidIn f) (bad : BadEntry (table_of (given_in f)) b) (k : Keeps f f') (v : RetainsBad f f' how i b (Ok stays)) where
+  abbrev g : List ℕ
+  g = given_in f
+
+  pub retained_is : (h : List Held) → retain_rule g (ways_of f.call) how i b (seen h f) ≡ done (seen (v h).0 f', judgement stays)
   unfolding retained_of
-  retained_is h = sym (v h).1 ∙ ap (λ z. retained_of (v h).0 g inputs replies z Q T) e
+  retained_is h = sym (v h).1
 
-  walked : Walked (table_of g) ways inputs replies l.legal 1 (view l.held g inputs replies R S w) (view (v l.held).0 g inputs replies Q T w')
+  walked : Walked (table_of g) (ways_of f.call) f.call.inputs.now f.call.replies.now l.legal 1 (seen l.held f) (seen_by f.call (v l.held).0 f')
   unfolding whole.judge_bads
   walked =
-      subst (If (λ (q : Bads). Goes (table_of g) ways inputs replies l.legal 1 (view l.held g inputs replies R S w) q.after))
-      (list_step g ways how i (view l.held g inputs replies R S w) b [] (view (v l.held).0 g inputs replies Q T w') (judgement stays) (retained_is l.held))
-      (bads_walked (table_of g) ways inputs replies l.legal how.solver how.terminate how.section i (view l.held g inputs replies R S w) (b ∷ []) (bad, tt)) l.fine
+      subst (If (λ (q : Bads). Goes (table_of g) (ways_of f.call) f.call.inputs.now f.call.replies.now l.legal 1 (seen l.held f) q.after))
+      (list_step g (ways_of f.call) how i (seen l.held f) b [] (seen_by f.call (v l.held).0 f') (judgement stays) (retained_is l.held ∙ ap (λ c. done (seen_by c (v l.held).0 f', judgement stays)) k.call))
+      (bads_walked (table_of g) (ways_of f.call) f.call.inputs.now f.call.replies.now l.legal how.solver how.terminate how.section i (seen l.held f) (b ∷ []) (bad, tt)) l.fine
 
-  asked-more : w'.asked + unpaid (λ k. 3) (count_of g) (mark_of (count_of g) T) ≤ w.asked + unpaid (λ k. 3) (count_of g) (mark_of (count_of g) S) + 1
+  abbrev n : ℕ
+  n = count_in f
+
+  abbrev S : List ℕ
+  S = f.scratch.now
+
+  abbrev T : List ℕ
+  T = f'.scratch.now
+
+  asked-more : f'.walk.asked + unpaid (λ k. 3) n (mark_of n T) ≤ f.walk.asked + unpaid (λ k. 3) n (mark_of n S) + 1
   unfolding view
   asked-more =
       let s = rw (table-length g) at walked.asks in
-      omega (arith, s, firsts-length w.asked (question_of (count_of g) S), firsts-length w'.asked (question_of (count_of g) T))
+      omega (arith, s, firsts-length f.walk.asked (question_of n S), firsts-length f'.walk.asked (question_of n T))
 
-  made_kept : w'.made + unpaid (λ k. 1) (count_of g) (mark_of (count_of g) T) ≤ w.made + unpaid (λ k. 1) (count_of g) (mark_of (count_of g) S)
+  made_kept : f'.walk.made + unpaid (λ k. 1) n (mark_of n T) ≤ f.walk.made + unpaid (λ k. 1) n (mark_of n S)
   unfolding view
   made_kept = rw (table-length g) at walked.few
 
-  looked-kept : w'.looked + unpaid (fee (table_of g)) (count_of g) (mark_of (count_of g) T) ≤ w.looked + unpaid (fee (table_of g)) (count_of g) (mark_of (count_of g) S)
+  looked-kept : f'.walk.looked + unpaid (fee (table_of g)) n (mark_of n T) ≤ f.walk.looked + unpaid (fee (table_of g)) n (mark_of n S)
   unfolding view
   looked-kept =
       let s = walked.looks in
-      omega (arith, s, ap (λ n. unpaid (fee (table_of g)) n (mark_of (count_of g) T)) (table-length g), ap (λ n. unpaid (fee (table_of g)) n (mark_of (count_of g) S)) (table-length g))
+      omega (arith, s, ap (λ m. unpaid (fee (table_of g)) m (mark_of n T)) (table-length g), ap (λ m. unpaid (fee (table_of g)) m (mark_of n S)) (table-length g))
 
-  pub spare_retained : length T ≡ length S → (c : ℕ) → Spare reserve g S w (c + 1) → Spare reserve g T w' c
-  spare_retained q c s = omega (arith, s, asked-more)
+  pub spare_retained : (c : ℕ) → SpareIn f (c + 1) → SpareIn f' c
+  spare_retained c s =
+      let q : SpareBy f.call f' c = omega (arith, s, asked-more, k.scratch_length) in
+      subst (λ d. SpareBy d f' c) (sym k.call) q
 
-  pub laid_retained : length Q ≡ length R → length T ≡ length S → Spare reserve g S w 1 → Laid g dumps inputs replies mode reserve Q T w'
-  laid_retained p q s =
-      record {
+  pub laid_retained : SpareIn f 1 → LaidIn f'
+  laid_retained s =
+      let q : LaidBy f.call f' = record {
         legal = l.legal;
         small = l.small;
         whole = l.whole;
-        room = omega (arith, l.room);
+        room = omega (arith, l.room, k.res_length);
         held = (v l.held).0;
         fine = walked.fine;
         few = omega (arith, l.few, made_kept);
-        asks = omega (arith, s, asked-more);
+        asks = omega (arith, s, asked-more, k.scratch_length);
         looks = omega (arith, l.looks, looked-kept);
-      }
+      } in
+      subst (λ d. LaidBy d f') (sym k.call) q
 
-pub never_refused : {A : Type 0} (z : Refusal) (w : Walk) (kept : ℕ) → Judged.Refused z ≡ Judged.Done w kept → A
-never_refused z w kept e = let o : ◌≡◌ {A = ℕ} 0 1 = cc in let i : ⊥ = omega arith in absurd i
+-- whatever the judgement is
+module _ (f f' : ConstantFolder) (how : Judging) (i b : ℕ) (l : LaidIn f) (bad : BadEntry (table_of (given_in f)) b) (k : Keeps f f') where
+  pub laid_judged : (r : Result Bool Refusal) → RetainsBad f f' how i b r → SpareIn f 1 → OnOk r (LaidIn f')
+  laid_judged (Ok stays) v s = laid_retained f f' how i b stays l bad k v s
+  laid_judged (Err z) v s = tt
 
--- ---- a list in the buffers
-pub take-front : (S T : List ℕ) (at list : ℕ) → at ≤ list → take list T ≡ take list S → take at T ≡ take at S
-take-front S T at list l e = sym (take-take at list T l) ∙ ap (take at) e ∙ take-take at list S l
-
-pub bads-still_1 : (S T : List ℕ) (at : ℕ) → drop at T ≡ drop at S → (j : ℕ) → at ≤ j → get_or T j 0 ≡ get_or S j 0
-bads-still_1 S T at e j l =
-    let q : j ≡ at + (j - at) = omega arith in
-    ap (λ z. get_or T z 0) q ∙ same-entry S T at e (j - at) ∙ ap (λ z. get_or S z 0) (sym q)
-
-pub bads-still : (S T U : List ℕ) (at list : ℕ) → drop at T ≡ drop at S → take list U ≡ take list T → (j : ℕ) → at ≤ j → j < list → get_or U j 0 ≡ get_or S j 0
-bads-still S T U at list e f j a b = sym (get_or-take list U j 0 b) ∙ ap (λ l. get_or l j 0) f ∙ get_or-take list T j 0 b ∙ bads-still_1 S T at e j a
+  pub spare_judged : (r : Result Bool Refusal) → RetainsBad f f' how i b r → OnOk r ((c : ℕ) → SpareIn f (c + 1) → SpareIn f' c)
+  spare_judged (Ok stays) v = spare_retained f f' how i b stays l bad k v
+  spare_judged (Err z) v = tt
 
 pub bad-inside : (g : List ℕ) (b : ℕ) → BadEntry (table_of g) b → b < count_of g
 bad-inside g b e = omega (arith, e.inside, table-length g)
 
-pub spare-less : (reserve : ℕ) (g S : List ℕ) (w : Walk) (c d : ℕ) → d ≤ c → Spare reserve g S w c → Spare reserve g S w d
-spare-less reserve g S w c d l s = omega (arith, s)
+-- ---- a list, as the folder goes on
+-- the rules' judgement of a list, by a call
+abbrev pub list_by : Call → Judging → ℕ → St → List ℕ → Out Bads
+list_by c how i σ bs = list_rule c.given.now (ways_of c) how i σ bs
 
-module _ (g dumps inputs replies : List ℕ) (mode : Mode) (reserve : ℕ) (how : Judging) (bs R S : List ℕ) (at list : ℕ) (w : Walk) (kept i : ℕ) (σ₀ : St) (Q T : List ℕ) (b : ℕ) (nb : b ≡ get_or bs i 0) (l : i < length bs) (r : Retained)
-    (p : (h : List Held) × (D : List ℕ) × (list_rule g (ways_in dumps mode replies) how 0 σ₀ bs
-    ≡ (list_rule g (ways_in dumps mode replies) how i (view h g inputs replies R (take at S) w) (drop i bs) >>= λ q. done (before (entries_of S list kept) D q))))
-    (v : Retains g inputs replies R (take at S) w r Q (take at T) (retain_rule g (ways_in dumps mode replies) how i b)) where
-  abbrev call : Ways
-  call = ways_in dumps mode replies
+-- the first i bads were judged on the way from f₀ to f; those that stay are E
+abbrev pub JudgesFirst : ConstantFolder → ConstantFolder → Judging → List ℕ → ℕ → List ℕ → Type 0
+JudgesFirst f₀ f how bs i E =
+    (h : List Held) → (h' : List Held) × (D : List ℕ) × (list_by f₀.call how 0 (seen h f₀) bs ≡ (list_by f₀.call how i (seen h' f) (drop i bs) >>= λ q. done (before E D q)))
 
-  abbrev now : St
-  now = view p.0 g inputs replies R (take at S) w
+module _ (f₀ f f' : ConstantFolder) (how : Judging) (bs : List ℕ) (i b : ℕ) (same : f.call ≡ f₀.call) (nb : b ≡ get_or bs i 0) (l : i < length bs) (E : List ℕ) (p : JudgesFirst f₀ f how bs i E) where
+  next : (h : List Held) → list_by f₀.call how 0 (seen h f₀) bs ≡ (list_by f₀.call how i (seen (p h).0 f) (b ∷ drop (i + 1) bs) >>= λ q. done (before E (p h).1 q))
+  next h = (p h).2 ∙ ap (λ z. list_by f₀.call how i (seen (p h).0 f) z >>= λ q. done (before E (p h).1 q)) (drop-cons bs i 0 l ∙ rw (add-one, nb))
 
-  next : list_rule g call how 0 σ₀ bs ≡ (list_rule g call how i now (b ∷ drop (i + 1) bs) >>= λ q. done (before (entries_of S list kept) p.1 q))
-  next = p.2 ∙ ap (λ z. list_rule g call how i now z >>= λ q. done (before (entries_of S list kept) p.1 q)) (drop-cons bs i 0 l ∙ rw (add-one, nb))
+  abbrev retained_by : Call → List Held → Out (St × Judgement)
+  retained_by c h = retain_rule c.given.now (ways_of c) how i b (seen h f)
 
-  pub bads-on : {w' : Walk} {stays : Bool} → r ≡ Retained.Done w' stays → drop at T ≡ drop at S → at ≤ list → {x : ℕ} → x ≡ b → {U : List ℕ} {k : ℕ} → KeptIf T U list kept x stays k
-      → (h : List Held) × (D : List ℕ) × (list_rule g call how 0 σ₀ bs ≡ (list_rule g call how (i + 1) (view h g inputs replies Q (take at U) w') (drop (i + 1) bs) >>= λ q. done (before (entries_of U list k) D q)))
+  pub bads-on : (stays : Bool) → RetainsBad f f' how i b (Ok stays) → (E' : List ℕ) → E' ≡ E ++ cond stays (b ∷ []) [] → JudgesFirst f₀ f' how bs (i + 1) E'
   unfolding retained_of
-  bads-on {w'} {stays} e f a {x} ex {U} {k} q =
-      let h : List Held = (v p.0).0 in
-      let D : List ℕ = p.1 ++ cond stays [] (b ∷ []) in
-      let done! : retain_rule g call how i b now ≡ done (view h g inputs replies Q (take at T) w', judgement stays) = sym (v p.0).1 ∙ ap (λ z. retained_of h g inputs replies z Q (take at T)) e in
-      let E : entries_of U list k ≡ entries_of S list kept ++ cond stays (b ∷ []) [] = q.entries ∙ ap₂ (λ l y. take kept l ++ cond stays (y ∷ []) []) (later_same S T at list a f) ex in (
-        h,
-        D,
-        next ∙ list_on g call how i now b (drop (i + 1) bs) (view h g inputs replies Q (take at T) w') stays done! (entries_of S list kept) p.1 (entries_of U list k) E
-            ∙ ap (λ z. list_rule g call how (i + 1) (view h g inputs replies Q z w') (drop (i + 1) bs) >>= λ q. done (before (entries_of U list k) D q)) (sym (take-front T U at list a q.front)),
+  bads-on stays v E' e = λ h.
+      let h' : List Held = (v (p h).0).0 in
+      let q : retained_by f₀.call (p h).0 ≡ done (seen h' f', judgement stays) = sym ((v (p h).0).1 ∙ ap (λ c. retained_by c (p h).0) same) in (
+        h',
+        (p h).1 ++ cond stays [] (b ∷ []),
+        next h ∙ list_on f₀.call.given.now (ways_of f₀.call) how i (seen (p h).0 f) b (drop (i + 1) bs) (seen h' f') stays q E (p h).1 E' e,
       )
 
-  pub bads-stop : {z : Refusal} → r ≡ Retained.Refused z → (h : List Held) × (D : List ℕ) × (judged_of h D g inputs replies (Judged.Refused z) Q T at list ≡ list_rule g call how 0 σ₀ bs)
+  pub bads-stop : (z : Refusal) → RetainsBad f f' how i b (Err z) → (kept : List ℕ) → JudgesBads f₀ f' how bs kept (Err z)
   unfolding retained_of judged_of
-  bads-stop {z} e =
-      let h : List Held = (v p.0).0 in
-      let refused! : refused (refusal_of z) ≡ retain_rule g call how i b now = sym (ap (λ x. retained_of h g inputs replies x Q (take at T)) e) ∙ (v p.0).1 in
-      (h, [], list_refused g call how i now b (drop (i + 1) bs) z refused! (entries_of S list kept) p.1 ∙ sym next)
+  bads-stop z v kept = λ h.
+      let h' : List Held = (v (p h).0).0 in
+      let q : refused (refusal_of z) ≡ retained_by f₀.call (p h).0 = (v (p h).0).1 ∙ ap (λ c. retained_by c (p h).0) same in
+      (h', [], list_refused f₀.call.given.now (ways_of f₀.call) how i (seen (p h).0 f) b (drop (i + 1) bs) z q E (p h).1 ∙ sym (next h))
 
-pub bads_end : (g inputs replies : List ℕ) (ways : Ways) (how : Judging) (σ₀ : St) (bs R S : List ℕ) (at list : ℕ) (w : Walk) (kept i : ℕ) → length bs ≤ i
-    → (h : List Held) × (D : List ℕ) × (list_rule g ways how 0 σ₀ bs ≡ (list_rule g ways how i (view h g inputs replies R (take at S) w) (drop i bs) >>= λ q. done (before (entries_of S list kept) D q)))
-    → (h : List Held) × (D : List ℕ) × (judged_of h D g inputs replies (Judged.Done w kept) R S at list ≡ list_rule g ways how 0 σ₀ bs)
+pub bads_none : (f : ConstantFolder) (how : Judging) (bs E : List ℕ) → E ≡ [] → JudgesFirst f f how bs 0 E
+bads_none f how bs E e = λ h. (h, [], list_start (list_by f.call how 0 (seen h f) bs) ∙ ap (λ e. list_by f.call how 0 (seen h f) bs >>= λ q. done (before e [] q)) (sym e))
+
+pub bads_end : (f₀ f : ConstantFolder) (how : Judging) (bs kept : List ℕ) (i count : ℕ) → length bs ≤ i → JudgesFirst f₀ f how bs i (take count kept) → JudgesBads f₀ f how bs kept (Ok count)
 unfolding judged_of
-bads_end g inputs replies ways how σ₀ bs R S at list w kept i l p =
-    (p.0, p.1, sym (p.2 ∙ list_end g ways how i (view p.0 g inputs replies R (take at S) w) (entries_of S list kept) p.1 (drop i bs) (drop_of_length-le bs {i = i} l)))
+bads_end f₀ f how bs kept i count l p = λ h.
+    ((p h).0, (p h).1, sym ((p h).2 ∙ list_end f₀.call.given.now (ways_of f₀.call) how i (seen (p h).0 f) (take count kept) (p h).1 (drop i bs) (drop_of_length-le bs {i = i} l)))
 
--- ---- the answer of a judged list
-done-walk : (v w : Walk) (j k : ℕ) → Judged.Done v j ≡ Judged.Done w k → v ≡ w
-done-walk v w j k e = cc
+-- a bad that stays is put after those before it
+pub entry-kept : (K K' : List ℕ) (count count' x b : ℕ) (stays : Bool) → stays ≡ true → count < length K → b ≡ x → K' ≡ set K count x → count' ≡ count + 1 → take count' K' ≡ take count K ++ cond stays (b ∷ []) []
+entry-kept K K' count count' x b stays s l e k c = ap₂ take c k ∙ entries-more K count x l ∙ ap₂ (λ t y. take count K ++ cond t (y ∷ []) []) (sym s) (sym e)
 
-done-kept : (v w : Walk) (j k : ℕ) → Judged.Done v j ≡ Judged.Done w k → j ≡ k
-done-kept v w j k e = cc
+pub entry-none : (K K' : List ℕ) (count count' b : ℕ) (stays : Bool) → stays ≡ false → K' ≡ K → count' ≡ count → take count' K' ≡ take count K ++ cond stays (b ∷ []) []
+entry-none K K' count count' b stays s k c = ap₂ take c k ∙ sym (append-nil (take count K)) ∙ ap (λ t. take count K ++ cond t (b ∷ []) []) (sym s)
 
-pub laid_end : (g dumps inputs replies : List ℕ) (mode : Mode) (reserve : ℕ) (R S : List ℕ) (v : Walk) (j : ℕ) → Laid g dumps inputs replies mode reserve R S v → (w : Walk) (k : ℕ) → Judged.Done v j ≡ Judged.Done w k → Laid g dumps inputs replies mode reserve R S w
-laid_end g dumps inputs replies mode reserve R S v j l w k e = subst (Laid g dumps inputs replies mode reserve R S) (done-walk v w j k e) l
-
-pub few_end : (v : Walk) (j n : ℕ) → j ≤ n → (w : Walk) (k : ℕ) → Judged.Done v j ≡ Judged.Done w k → k ≤ n
-few_end v j n l w k e = omega (arith, done-kept v w j k e)
-
-pub spare_end : (reserve : ℕ) (g S : List ℕ) (v : Walk) (j c : ℕ) (w : Walk) (k : ℕ) → Judged.Done v j ≡ Judged.Done w k → Spare reserve g S v c → Spare reserve g S w c
-spare_end reserve g S v j c w k e s = subst (λ z. Spare reserve g S z c) (done-walk v w j k e) s
+pub spare-less : (f : ConstantFolder) (c d : ℕ) → d ≤ c → SpareIn f c → SpareIn f d
+spare-less f c d l s = omega (arith, s)

@@ -1,105 +1,110 @@
--- Laws for joining two judged lists of bads: their outcomes, what is left for the end of a run, and what the answer then says.
+-- Joining the parts of a fold of the bads: the lists judged, the last question, and what the walk leaves where it is over.
 -- Assumes nothing.
-use Prim.Native.Nat.{ℕ, ◌+◌, ◌*◌, ◌<◌, ◌≤◌}
-use mathlib.Core.Path.{◌≡◌, refl, sym, ap, ◌∙◌, subst}
-use mathlib.Core.Bool.{Bool, true, false}
-use mathlib.Core.List.{List, ◌++◌, flatten}
+use Prim.Native.Nat.{ℕ, ◌<◌}
+use mathlib.Core.Path.{◌≡◌, sym, ap, ◌∙◌, subst}
+use mathlib.Core.Bool.{true, false}
+use mathlib.Core.List.{List, ◌++◌}
 use native.Mathlib.Omega.{arith}
-use lib.ListN.{length, get_or, take, length-take}
-use Rattle.rules.specs.Refusal.{Out, refused, done}
-use Rattle.rules.specs.Walk.{St, Held}
-use Rattle.rules.specs.Model.{Model, Mode}
-use Rattle.rules.specs.Whole.{Bads, bads, Folded, fold_bads}
-use Rattle.rules.specs.Result.{result_words}
-use Rattle.tables.specs.Refusals.{refusal_of}
+use lib.ListN.{length, take}
+use Rattle.std.specs.Prelude.{Ok, Err}
+use Rattle.rules.specs.Refusal.{Out}
+use Rattle.rules.specs.Sections.{word_of}
+use Rattle.rules.specs.Walk.{Held}
+use Rattle.rules.specs.Whole.{Bads}
 use Rattle.tables.specs.declared.refusal.Refusal.{Refusal}
-use Rattle.optimize.specs.declared.walk.Walk.{Walk}
-use Rattle.optimize.specs.declared.walk.Optimized.{Optimized}
-use Rattle.optimize.specs.declared.bads.Judged.{Judged}
-use Rattle.optimize.specs.declared.result.Kept.{Kept}
+use Rattle.tables.specs.Refusals.{refusal_of}
+use Rattle.optimize.specs.declared.bads.Judging.{Judging}
+use Rattle.optimize.specs.declared.last_question.Verdict.{Verdict}
+use Rattle.optimize.specs.LastQuestion.{answered_of}
+use Rattle.optimize.specs.declared.call.Call.{Call}
+use Rattle.optimize.specs.declared.folder.ConstantFolder.{ConstantFolder}
 use Rattle.optimize.specs.Bounds.{count_of}
-use Rattle.optimize.specs.View.{view}
-use Rattle.optimize.specs.ResultView.{folded_in, Handed, ModelOf}
-use Rattle.optimize.specs.Lists.{entries_of}
-use Rattle.optimize.specs.Laid.{Laid}
-use Rattle.optimize.specs.Bads.{Spare, judged_of}
-use Rattle.optimize.specs.Ending.{Ended}
-use Rattle.optimize.specs.Runs.{model_in, Underway, Ends}
-use Rattle.optimize.proofs.Steps.{table-length}
+use Rattle.optimize.specs.View.{Coded}
+use Rattle.optimize.specs.Call.{mode_is, ways_of}
+use Rattle.optimize.specs.Folder.{count_in, seen, Keeps, LaidIn}
+use Rattle.optimize.specs.Bads.{SpareIn, judged_of, list_rule}
+use Rattle.optimize.specs.Runs.{Over, model_by, bads_of, once_of, FoldsBads, FoldsOnce}
+use Rattle.optimize.specs.ResultView.{folded_in}
+use Rattle.optimize.specs.Clauses.{JudgesBads, AnswersLast, AtMost}
 use Rattle.optimize.proofs.Keeps.{codes_known}
-use Rattle.optimize.proofs.RunLaws.{first-refused, later-refused, both-judged, entries-still, folded-is}
+use Rattle.optimize.proofs.RunLaws.{first-refused, later-refused, both-judged, once-refused, once-last}
 
--- ---- the outcome of a judged list
-module _ (h : List Held) (d g ins reps : List ℕ) (r : Judged) (R S : List ℕ) (at list : ℕ) (o : Out Bads) (e : judged_of h d g ins reps r R S at list ≡ o) where
-  pub judged-refused : (z : Refusal) → r ≡ Judged.Refused z → o ≡ refused (refusal_of z)
-  unfolding judged_of
-  judged-refused z q = sym e ∙ ap (λ (x : Judged). judged_of h d g ins reps x R S at list) q
+-- how the lists are judged
+abbrev pub by_solver : ConstantFolder → ℕ → Judging
+by_solver f section = record { solver = true; terminate = f.call.mode.terminate; section = section }
 
-  pub judged-done : (w : Walk) (count : ℕ) → r ≡ Judged.Done w count → o ≡ done (record { after = view h g ins reps R (take at S) w; stay = entries_of S list count; dropped = d })
-  unfolding judged_of
-  judged-done w count q = sym e ∙ ap (λ (x : Judged). judged_of h d g ins reps x R S at list) q
+abbrev pub by_condition : Judging
+by_condition = record { solver = false; terminate = true; section = 3 }
 
-module _ (g dumps ss initial later ins reps : List ℕ) (mode : Mode) (R S : List ℕ) (w : Walk) (at count : ℕ) (u : Underway g dumps ss initial later ins reps mode R S w at count) where
-  pub lists_fit : at + length ss + length initial + length later ≤ length S
-  lists_fit = omega (arith, u.place, u.runnable.scratch)
+-- ---- both lists
+module _ (f f₁ : ConstantFolder) (initial later kept I L : List ℕ) where
+  pub first_ends : (z : Refusal) → JudgesBads f f₁ (by_solver f 3) initial kept (Err z) → FoldsBads f f₁ initial later I L (Err z)
+  unfolding judged_of bads_of
+  first_ends z v = λ h ss seqs.
+      let p = v h in
+      (p.0, p.1, sym (first-refused (model_by f.call ss initial later) (mode_is f.call.mode) (seen h f) seqs (refusal_of z) (sym p.2)))
 
-  -- what a run leaves at its end
-  pub ended : (Q T : List ℕ) (v : Walk) (k : Kept) → length Q ≡ length R → length T ≡ length S → Laid g dumps ins reps mode 0 Q (take at T) v → Spare 0 g (take at T) v 1
-      → k.sequentials ≤ length ss → k.initial ≤ length initial → k.later ≤ length later → Ended g ins Q T v k (record { sequentials = length ss; initial = length initial; later = length later })
-  ended Q T v k p q laid spare a b c =
-      record {
-        counted = omega (arith, u.runnable.whole);
-        few = u.runnable.small;
-        whole = u.runnable.whole;
-        room = omega (arith, u.runnable.room);
-        scratch = omega (arith, u.runnable.scratch);
-        made = omega (arith, laid.few);
-        asked = omega (arith, spare, length-take at T, u.place);
-        sequentials = a;
-        initial = b;
-        later = c;
-        known = codes_known g dumps ins reps mode 0 Q (take at T) v laid;
-      }
+module _ (f f₁ f₂ : ConstantFolder) (initial later I L : List ℕ) (same : f₁.call ≡ f.call) (i : ℕ) (v : JudgesBads f f₁ (by_solver f 3) initial I (Ok i)) where
+  -- the second list, judged from the state that the first left
+  abbrev second_by : Call → List Held → Out Bads
+  second_by c h = list_rule c.given.now (ways_of c) (by_solver f 4) 0 (seen h f₁) later
 
-  pub model_of : ModelOf g ins reps (model_in g dumps ss initial later ins reps)
-  model_of = record { nodes = table-length g; inputs = refl; replies = refl }
+  pub later_ends : (z : Refusal) → JudgesBads f₁ f₂ (by_solver f 4) later L (Err z) → FoldsBads f f₂ initial later I L (Err z)
+  unfolding judged_of bads_of
+  later_ends z w = λ h ss seqs.
+      let p = v h in
+      let q = w p.0 in
+      (q.0, p.1, sym (later-refused (model_by f.call ss initial later) (mode_is f.call.mode) (seen h f) seqs _ (sym p.2) (refusal_of z) (sym (q.2 ∙ ap (λ c. second_by c p.0) same))))
 
-  -- the bads are judged under what the mode says of terminate
-  module _ (terminate : Bool) (t : terminate ≡ mode.terminate) (σ : St) where
-    abbrev m : Model
-    m = model_in g dumps ss initial later ins reps
+  pub both_end : (k : ℕ) → JudgesBads f₁ f₂ (by_solver f 4) later L (Ok k) → FoldsBads f f₂ initial later I L (Ok (i, k))
+  unfolding judged_of bads_of folded_in
+  both_end k w = λ h ss seqs.
+      let p = v h in
+      let q = w p.0 in
+      (q.0, p.1 ++ q.1, sym (both-judged (model_by f.call ss initial later) (mode_is f.call.mode) (seen h f) seqs _ (sym p.2) _ (sym (q.2 ∙ ap (λ c. second_by c p.0) same))))
 
-    abbrev how : Mode
-    how = mode
+-- ---- one-query
+module _ (f f₁ : ConstantFolder) (initial kept : List ℕ) where
+  pub once_first : (z : Refusal) → JudgesBads f f₁ by_condition initial kept (Err z) → FoldsOnce f f₁ initial kept (Err z)
+  unfolding judged_of once_of
+  once_first z v = λ h ss seqs later.
+      let p = v h in
+      (p.0, p.1, once-refused (model_by f.call ss initial later) (mode_is f.call.mode) (seen h f) seqs (refusal_of z) (sym p.2))
 
-    at_terminate : (section : ℕ) (τ : St) (bs : List ℕ) (o : Out Bads) → bads m how true terminate section τ bs ≡ o → bads m how true mode.terminate section τ bs ≡ o
-    at_terminate section τ bs o e = ap (λ (b : Bool). bads m how true b section τ bs) (sym t) ∙ e
+  module _ (f₂ : ConstantFolder) (same : f₁.call ≡ f.call) (i : ℕ) (v : JudgesBads f f₁ by_condition initial kept (Ok i)) where
+    pub once_last : (z : Refusal) → AnswersLast f₁ f₂ (take i kept) (Err z) → FoldsOnce f f₂ initial kept (Err z)
+    unfolding judged_of once_of answered_of
+    once_last z w = λ h ss seqs later.
+        let p = v h in
+        (p.0, p.1, once-last (model_by f.call ss initial later) (mode_is f.call.mode) (seen h f) seqs _ _ (sym p.2) (w p.0 (model_by f.call ss initial later) (mode_is f.call.mode) (ap (λ (c : Call). length c.replies.now) (sym same))))
 
-    pub both_ended : (S₁ Q T : List ℕ) (h₁ h₂ : List Held) (d₁ d₂ R₁ : List ℕ) (w₁ v : Walk) (i k room r : ℕ) (U : List ℕ)
-        → bads m how true terminate 3 σ initial ≡ done (record { after = view h₁ g ins reps R₁ (take at S₁) w₁; stay = entries_of S₁ (at + length ss) i; dropped = d₁ })
-        → bads m how true terminate 4 (view h₁ g ins reps R₁ (take at S₁) w₁) later ≡ done (record { after = view h₂ g ins reps Q (take at T) v; stay = entries_of T (at + length ss + length initial) k; dropped = d₂ })
-        → ((j : ℕ) → at ≤ j → j < at + length ss → get_or S₁ j 0 ≡ get_or S j 0) → ((j : ℕ) → at ≤ j → j < at + length ss + length initial → get_or T j 0 ≡ get_or S₁ j 0)
-        → length S₁ ≡ length S → length T ≡ length S → i ≤ length initial → Spare 0 g (take at T) v 1
-        → Handed (flatten (result_words m (folded_in h₂ (d₁ ++ d₂) g ins reps Q T v (record { sequentials = count; initial = i; later = k }) (record { sequentials = length ss; initial = length initial; later = length later }) 0))) (length Q) U r → length Q ≡ room
-        → Ends m (fold_bads m how false σ (entries_of S at count)) room (Optimized.Done r) U
-    unfolding Ends
-    both_ended S₁ Q T h₁ h₂ d₁ d₂ R₁ w₁ v i k room r U e₁ e₂ a b p q few spare hand same =
-        let x : Bads = record { after = view h₁ g ins reps R₁ (take at S₁) w₁; stay = entries_of S₁ (at + length ss) i; dropped = d₁ } in
-        let y : Bads = record { after = view h₂ g ins reps Q (take at T) v; stay = entries_of T (at + length ss + length initial) k; dropped = d₂ } in
-        let f : Folded = record { state = y.after; sequentials = entries_of S at count; initial = x.stay; later = y.stay; dropped = d₁ ++ d₂; verdict = 0 } in
-        let fewer = u.fewer in
-        let asks : 2 * count_of g + 4 * v.asked ≤ at = omega (arith, spare, length-take at T) in
-        let first : entries_of S at count ≡ entries_of T at count = sym (entries-still S T at count (omega (arith, lists_fit)) (omega (arith, lists_fit)) (λ j l n. b j l (omega arith) ∙ a j l (omega arith))) in
-        let second : entries_of S₁ (at + length ss) i ≡ entries_of T (at + length ss) i = sym (entries-still S₁ T (at + length ss) i (omega (arith, lists_fit)) (omega (arith, lists_fit)) (λ j l n. b j (omega arith) (omega arith))) in (
-          f,
-          both-judged m how σ (entries_of S at count) x (at_terminate 3 σ initial (done x) e₁) y (at_terminate 4 x.after later (done y) e₂),
-          subst (λ (z : Folded). Handed (flatten (result_words m z)) room U r) (sym (folded-is h₂ (d₁ ++ d₂) g ins reps Q T v (record { sequentials = count; initial = i; later = k }) (record { sequentials = length ss; initial = length initial; later = length later }) 0 at (entries_of S at count) x.stay y.stay u.place asks first second refl)) (subst (λ (c : ℕ). Handed (flatten (result_words m (folded_in h₂ (d₁ ++ d₂) g ins reps Q T v (record { sequentials = count; initial = i; later = k }) (record { sequentials = length ss; initial = length initial; later = length later }) 0))) c U r) same hand),
-        )
+    pub once_end : (verdict : Verdict) → AnswersLast f₁ f₂ (take i kept) (Ok verdict) → FoldsOnce f f₂ initial kept (Ok (i, verdict))
+    unfolding judged_of once_of answered_of folded_in
+    once_end verdict w = λ h ss seqs later.
+        let p = v h in
+        (p.0, p.1, once-last (model_by f.call ss initial later) (mode_is f.call.mode) (seen h f) seqs _ _ (sym p.2) (w p.0 (model_by f.call ss initial later) (mode_is f.call.mode) (ap (λ (c : Call). length c.replies.now) (sym same))))
 
-    pub first_ends : (z : Refusal) (room : ℕ) (U : List ℕ) → bads m how true terminate 3 σ initial ≡ refused (refusal_of z) → Ends m (fold_bads m how false σ (entries_of S at count)) room (Optimized.Refused z) U
-    unfolding Ends
-    first_ends z room U e = first-refused m how σ (entries_of S at count) (refusal_of z) (at_terminate 3 σ initial (refused (refusal_of z)) e)
+-- ---- where the walk is over
+pub over-laid : (f : ConstantFolder) → LaidIn f → SpareIn f 1 → Over f
+over-laid f l s =
+    record {
+      counted = omega (arith, l.whole);
+      few = l.small;
+      room = l.room;
+      asks = omega (arith, s);
+      made = omega (arith, l.few);
+      known = codes_known f.call.given.now f.call.dumps.now f.call.inputs.now f.call.replies.now (mode_is f.call.mode) 0 f.res.now f.scratch.now f.walk l;
+    }
 
-    pub later_ends : (i : Bads) (z : Refusal) (room : ℕ) (U : List ℕ) → bads m how true terminate 3 σ initial ≡ done i → bads m how true terminate 4 i.after later ≡ refused (refusal_of z) → Ends m (fold_bads m how false σ (entries_of S at count)) room (Optimized.Refused z) U
-    unfolding Ends
-    later_ends i z room U e d = later-refused m how σ (entries_of S at count) i (at_terminate 3 σ initial (done i) e) (refusal_of z) (at_terminate 4 i.after later (refused (refusal_of z)) d)
+pub over-asked : (f f' : ConstantFolder) → LaidIn f → SpareIn f 1 → Keeps f f' → AtMost f f' 1 → f'.res.now ≡ f.res.now → Over f'
+over-asked f f' l s k a e =
+    let o = over-laid f l s in
+    let c : count_in f' ≡ count_in f = ap (λ (c : Call). count_of c.given.now) k.call in
+    record {
+      counted = subst (λ (c : Call). 0 < length c.given.now) (sym k.call) o.counted;
+      few = omega (arith, c, o.few);
+      room = omega (arith, c, o.room, k.res_length);
+      asks = omega (arith, c, s, a.1, k.scratch_length);
+      made = omega (arith, c, o.made, a.0);
+      known = λ v l. subst (λ (R : List ℕ). Coded (word_of R v 0)) (sym e) (o.known v (omega (arith, c)));
+    }

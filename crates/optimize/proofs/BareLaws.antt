@@ -1,6 +1,6 @@
 -- The result does not show which bads a question of kind 5 is about, and the buffers do not hold them.
 -- So a fold and the same fold without them are handed back alike: each question gives the same four words.
---     bare_folded    a fold without the bads of its questions        bare-same    it has the same result
+--     bare-same    a fold without the bads of its questions has the same result
 -- Assumes nothing.
 use mathlib.Core.Path.{◌≡◌, refl, ap}
 use mathlib.Core.List.{List, [], ◌∷◌, map}
@@ -9,11 +9,7 @@ use Rattle.rules.specs.Model.{Model}
 use Rattle.rules.specs.Walk.{Question}
 use Rattle.rules.specs.Whole.{Folded}
 use Rattle.rules.specs.Result.{question_words, result_words}
-use Rattle.optimize.specs.LastQuestion.{unnamed, without_bads}
-
-abbrev pub bare_folded : Folded → Folded
-bare_folded f =
-    record { state = without_bads f.state; sequentials = f.sequentials; initial = f.initial; later = f.later; dropped = f.dropped; verdict = f.verdict }
+use Rattle.optimize.specs.LastQuestion.{unnamed, bare_folded}
 
 bare-words : (qs : List Question) → question_words (map unnamed qs) ≡ question_words qs
 unfolding question_words

@@ -29,7 +29,7 @@ use Rattle.rules.proofs.Demand.{worth-node, worth-false, worth-true, worth-made}
 use Rattle.rules.proofs.Laws.{replacement_before, replacement_sort, row_keeps, operands-below}
 use Rattle.rules.proofs.Call.{passed, demand3_of_call}
 use Rattle.rules.proofs.Numbered.{accepted-answer}
-use Rattle.optimize.specs.declared.walk.Optimized.{Optimized}
+use Rattle.std.specs.Prelude.{Ok}
 use Rattle.optimize.specs.Bounds.{count_of}
 use Rattle.optimize.specs.View.{node_of}
 use Rattle.optimize.specs.Demand.{Contract, constants_on, replacements_on, times, sort_in, worth_in, SortsIn, KeepsIn, Kept, Demand3OfResult}
@@ -140,7 +140,7 @@ module _ (m : Model) (how : Mode) (f : Folded) (wf : WellFormed m) (e : fold m h
           }
 
 -- ---- a call
-module _ (entry : Entry) (call : Call) (count : ℕ) (Q S : List ℕ) (c : Contract entry call (Optimized.Done count) Q S) where
+module _ (entry : Entry) (call : Call) (count : ℕ) (Q S : List ℕ) (c : Contract entry call (Ok count) Q S) where
   is-accepted : (a : Accepted) × (outcome house entry call ≡ done a)
   unfolding left
   is-accepted = accepted-answer house entry call (sym (ap (λ (z : Answer). z.number) c.answer))

@@ -1,23 +1,30 @@
 -- Why the end of a run leaves the state: past its end a list has no entries.
---     same-counted    the state is the same         finished    what the writer of the result needs
+--     least-left    as much is left of a list        same-counted    the state is the same         finished    what the writer of the result needs
 -- Assumes nothing.
-use Prim.Native.Nat.{ℕ, ◌≤◌}
-use mathlib.Core.Path.{◌≡◌, subst}
+use Prim.Native.Nat.{ℕ, ◌≤◌, min}
+use mathlib.Core.Path.{◌≡◌, sym, ap, ◌∙◌, subst}
 use mathlib.Core.List.{List, flatten}
 use native.Mathlib.Omega.{arith}
-use lib.ListN.{length, drop}
+use lib.ListN.{length, drop, drop_of_length-le}
 use Rattle.rules.specs.Walk.{Held}
 use Rattle.rules.specs.Model.{Model}
 use Rattle.rules.specs.Whole.{Folded}
 use Rattle.rules.specs.Result.{result_words}
+use Rattle.optimize.specs.declared.call.Call.{Call}
+use Rattle.optimize.specs.declared.lists.Lists.{Lists}
 use Rattle.optimize.specs.declared.walk.Walk.{Walk}
-use Rattle.optimize.specs.declared.result.Kept.{Kept}
-use Rattle.optimize.specs.declared.result.Sizes.{Sizes}
 use Rattle.optimize.specs.View.{view}
 use Rattle.optimize.specs.ResultView.{Finished, folded_in, Handed}
 use Rattle.optimize.specs.Ending.{Ended}
+use Rattle.rules.proofs.Base.{inside-or-past}
 
 -- ---- counters
+pub least-left : (k t : ℕ) (l : List ℕ) → k ≡ min t (length l) → drop k l ≡ drop t l
+least-left k t l e =
+    inside-or-past (drop k l ≡ drop t l) t (length l)
+    (λ h. let q : k ≡ t = omega arith in ap (λ i. drop i l) q)
+    (λ h. drop_of_length-le l {i = k} (omega arith) ∙ sym (drop_of_length-le l {i = t} h))
+
 module _ (h : List Held) (g inputs replies R S : List ℕ) (w : Walk) where
   pub same-counted : (t u : ℕ) → drop t inputs ≡ drop w.taken inputs → drop u replies ≡ drop w.used replies
       → view h g inputs replies R S (record { made = w.made; taken = t; used = u; asked = w.asked; looked = w.looked; passed = w.passed }) ≡ view h g inputs replies R S w
@@ -25,30 +32,24 @@ module _ (h : List Held) (g inputs replies R S : List ℕ) (w : Walk) where
   same-counted t u e d = rw (e, d)
 
 -- ---- the end
-pub same_fold : (h : List Held) (d g inputs replies R Q S : List ℕ) (w x : Walk) (k : Kept) (z : Sizes) (verdict : ℕ)
-    → view h g inputs replies Q S x ≡ view h g inputs replies R S w
-    → folded_in h d g inputs replies Q S x k z verdict ≡ folded_in h d g inputs replies R S w k z verdict
+pub same_fold : (h : List Held) (d g inputs replies R S : List ℕ) (w x : Walk) (ss initial later : List ℕ) (u v : ℕ) → view h g inputs replies R S x ≡ view h g inputs replies R S w → u ≡ v
+    → folded_in h d g inputs replies R S x ss initial later u ≡ folded_in h d g inputs replies R S w ss initial later v
 unfolding folded_in
-same_fold h d g inputs replies R Q S w x k z verdict e = rw e
+same_fold h d g inputs replies R S w x ss initial later u v e f = rw (e, f)
 
--- the same fold in as much room
-pub handed_same : (m : Model) {f e : Folded} {c d : ℕ} {P : List ℕ} {r : ℕ} → f ≡ e → c ≡ d → Handed (flatten (result_words m f)) c P r → Handed (flatten (result_words m e)) d P r
-handed_same m {f} {e} {c} {d} {P} {r} p q h =
-    subst (λ (x : ℕ). Handed (flatten (result_words m e)) x P r) q (subst (λ (y : Folded). Handed (flatten (result_words m y)) c P r) p h)
+pub handed_same : (m : Model) {f e : Folded} {c : ℕ} {P : List ℕ} {r : ℕ} → f ≡ e → Handed (flatten (result_words m f)) c P r → Handed (flatten (result_words m e)) c P r
+handed_same m {f} {e} {c} {P} {r} p h = subst (λ (y : Folded). Handed (flatten (result_words m y)) c P r) p h
 
-pub finished : (g inputs R S : List ℕ) (w x : Walk) (k : Kept) (z : Sizes) → Ended g inputs R S w k z → x.made ≡ w.made → x.asked ≡ w.asked → x.taken ≤ length inputs
-    → Finished g inputs R S x k z
-finished g inputs R S w x k z fine made asked taken =
+pub finished : (c : Call) (R S : List ℕ) (w x : Walk) (kept : Lists) → Ended c R S w kept → x.made ≡ w.made → x.asked ≡ w.asked → x.taken ≤ length c.inputs.now
+    → Finished c.given.now c.inputs.now R S x kept
+finished c R S w x kept fine made asked taken =
     record {
       counted = fine.counted;
       few = fine.few;
-      room = fine.room;
-      scratch = fine.scratch;
+      least = fine.least;
+      room = omega (arith, fine.room, made, asked);
+      scratch = omega (arith, fine.scratch, asked);
       made = omega (arith, fine.made, made);
-      asked = omega (arith, fine.asked, asked);
       taken = taken;
-      sequentials = fine.sequentials;
-      initial = fine.initial;
-      later = fine.later;
       known = fine.known;
     }

@@ -35,16 +35,15 @@ use Rattle.tables.specs.NameAnswers.{dump_mark}
 use Rattle.tables.specs.Judging.{rows_in, IsCut, call_with, judged_count, verdict_of}
 use Rattle.tables.specs.declared.refusal.Refusal as tables
 use Rattle.tables.specs.declared.sections.Sections.{Sections}
-use Rattle.tables.specs.declared.judge.Verdict.{Verdict}
+use Rattle.tables.specs.declared.judge.Accepted as judge
 use Rattle.tables.proofs.JudgeLaws.{row_words, rows-count}
 use Rattle.tables.proofs.NameLaws.{accepted_mark}
-use Rattle.optimize.specs.declared.walk.Optimized.{Optimized}
+use Rattle.std.specs.Prelude.{Result, Ok, Err}
 use Rattle.optimize.specs.Bounds.{count_of}
 use Rattle.rules.specs.Sections.{word_of}
 use Rattle.optimize.specs.ResultView.{KindsKnown}
 use Rattle.optimize.specs.Runs.{Ends, Runs}
-use Rattle.optimize.specs.CallWords.{between}
-use Rattle.optimize.specs.Entries.{answered, inputs_end, replies_end, result_left, InOrder, part_of, model_parts, RunnableParts}
+use Rattle.optimize.specs.Entries.{answered, between, inputs_of, replies_of, result_left, InOrder, part_of, model_parts, RunnableParts}
 use Rattle.optimize.proofs.Given.{count-is, table_is, part-is}
 use Rattle.optimize.proofs.Judged.{Passed, judged-passed}
 
@@ -54,16 +53,16 @@ bind_refused (refused q) f r e = let z : r ≡ q = cc in ap (λ (x : Refusal). r
 bind_refused (done x) f r e = never (refused r) r (f x) refl e
 
 module _ (mode : ℕ) (ws bs : List ℕ) (room scratch : ℕ) where
-  pub in_order : (s : Sections) (k : ℕ) → verdict_of ws (Verdict.Accepted s k) ≡ judged_count house mode ws bs room scratch → IsCut house ws s
-      → InOrder (call_with mode ws bs room scratch) s
-  in_order s k e h =
-      through (judged house (call_with mode ws bs room scratch)) _ (sections_in ws s, k) (sym e) λ j m f.
+  pub in_order : (a : judge.Accepted) → verdict_of ws (Ok a) ≡ judged_count house mode ws bs room scratch → IsCut house ws a.sections
+      → InOrder (call_with mode ws bs room scratch) a.sections
+  in_order a e h =
+      through (judged house (call_with mode ws bs room scratch)) _ (sections_in ws a.sections, a.names) (sym e) λ j m f.
       record { is_cut = h; with = j; judged = m; sections = ap (λ (q : rules.Sections × ℕ). q.0) (same-done _ _ f) }
 
 -- a call refused before the walk: the answer, and zeros in the result
 pub refused-left : (e : Entry) (mode : ℕ) (ws bs : List ℕ) (room scratch : ℕ) (r : tables.Refusal)
-    → verdict_of ws (Verdict.Refused r) ≡ judged_count house mode ws bs room scratch
-    → (answered (Optimized.Refused r) ≡ (left house e (call_with mode ws bs room scratch)).answer)
+    → verdict_of ws (Err r) ≡ judged_count house mode ws bs room scratch
+    → (answered (Err r) ≡ (left house e (call_with mode ws bs room scratch)).answer)
     × (replicate room 0 ≡ (left house e (call_with mode ws bs room scratch)).result)
     × (replicate scratch 0 ≡ (left house e (call_with mode ws bs room scratch)).scratch)
 unfolding left
@@ -92,18 +91,18 @@ module _ (ws : List ℕ) (s : Sections) (h : IsCut house ws s) where
   nothing : (at : ℕ) → between ws at at ≡ []
   nothing at = let z : at - at ≡ 0 = omega arith in ap (λ (n : ℕ). take n (drop at ws)) z
 
-  inputs_are : (e : Entry) → between ws s.inputs.start (inputs_end e s.inputs) ≡ (brought e (sections_in ws s)).inputs
+  inputs_are : (e : Entry) → inputs_of e ws s.inputs ≡ (brought e (sections_in ws s)).inputs
   inputs_are impl = part-is ws _ s.inputs h.inside.inputs
   inputs_are with_solver = nothing s.inputs.start
   inputs_are with_input = part-is ws _ s.inputs h.inside.inputs
 
-  replies_are : (e : Entry) → between ws s.replies.start (replies_end e s.replies) ≡ (brought e (sections_in ws s)).replies
+  replies_are : (e : Entry) → replies_of e ws s.replies ≡ (brought e (sections_in ws s)).replies
   replies_are impl = part-is ws _ s.replies h.inside.replies
   replies_are with_solver = part-is ws _ s.replies h.inside.replies
   replies_are with_input = nothing s.replies.start
 
   pub model_is : (e : Entry) (dumps : List ℕ) (names : List (List ℕ)) → (λ (k : ℕ). eqb (get_or dumps k 0) 1) ≡ dump names
-      → model_parts ws dumps s (inputs_end e s.inputs) (replies_end e s.replies) ≡ model_from names (brought e (sections_in ws s))
+      → model_parts ws dumps s (inputs_of e ws s.inputs) (replies_of e ws s.replies) ≡ model_from names (brought e (sections_in ws s))
   unfolding model_parts
   model_is e dumps names d = go e
     where
@@ -116,12 +115,12 @@ module _ (ws : List ℕ) (s : Sections) (h : IsCut house ws s) where
       at_4 : part_of ws s.later ≡ words_in ws 1 s.later
       at_4 = part-is ws _ s.later h.inside.later
 
-      go : (e : Entry) → model_parts ws dumps s (inputs_end e s.inputs) (replies_end e s.replies) ≡ model_from names (brought e (sections_in ws s))
+      go : (e : Entry) → model_parts ws dumps s (inputs_of e ws s.inputs) (replies_of e ws s.replies) ≡ model_from names (brought e (sections_in ws s))
       go impl = same-model _ _ _ _ _ _ _ _ _ _ _ _ _ _ (table_is ws s h) d at_2 at-3 at_4 (inputs_are impl) (replies_are impl)
       go with_solver = same-model _ _ _ _ _ _ _ _ _ _ _ _ _ _ (table_is ws s h) d at_2 at-3 at_4 (inputs_are with_solver) (replies_are with_solver)
       go with_input = same-model _ _ _ _ _ _ _ _ _ _ _ _ _ _ (table_is ws s h) d at_2 at-3 at_4 (inputs_are with_input) (replies_are with_input)
 
-  inputs-fewer : (e : Entry) → length (between ws s.inputs.start (inputs_end e s.inputs)) ≤ length (words_in ws 1 s.inputs)
+  inputs-fewer : (e : Entry) → length (inputs_of e ws s.inputs) ≤ length (words_in ws 1 s.inputs)
   inputs-fewer e = let q = ap length (inputs_are e) in omega (arith, q, go e)
     where
       go : (e : Entry) → length (brought e (sections_in ws s)).inputs ≤ length (words_in ws 1 s.inputs)
@@ -154,25 +153,39 @@ well_formed with_solver names S h =
 well_formed with_input names S h =
     (accepted (length names) S.rows (dump names) S.sequentials S.initial S.later S.inputs [] (judged_as_given with_input names S ∙ h)).model
 
--- the mode by its three bits
-pub run-mode : (m : Model) (mode word room : ℕ) (r : Optimized) (Q : List ℕ) → word ≡ mode → Runs m (mode_of word) room r Q → Runs m (mode_of mode) room r Q
-run-mode m mode word room r Q e h = subst (λ (x : ℕ). Runs m (mode_of x) room r Q) e h
-
 pub scratch-left : (e : Entry) (call : Call) (n : ℕ) → n ≡ call.scratch_room → replicate n 0 ≡ (left house e call).scratch
 unfolding left
 scratch-left e call n l = ap (λ (n : ℕ). replicate n 0) l
+
+-- the walk may run whatever the replies are
+any-replies : (ws dumps : List ℕ) (s : Sections) (i r r' : List ℕ) (result_room scratch_room : ℕ)
+    → RunnableParts ws dumps s i r result_room scratch_room → RunnableParts ws dumps s i r' result_room scratch_room
+unfolding RunnableParts
+any-replies ws dumps s i r r' result_room scratch_room h =
+    let l = h.legal in
+    record {
+      legal = record { nodes = l.nodes; sequentials = l.sequentials; once = l.once; initial = l.initial; later = l.later };
+      known = h.known;
+      small = h.small;
+      whole = h.whole;
+      bads = h.bads;
+      sequentials = h.sequentials;
+      inputs = h.inputs;
+      room = h.room;
+      scratch = h.scratch;
+    }
 
 -- ---- a call in order
 module _ (call : Call) (s : Sections) (p : InOrder call s) (dumps : List ℕ) (marks : (k : ℕ) → get_or dumps k 0 ≡ dump_mark house call.names k) where
   passed : Passed house call p.with
   passed = judged-passed house call p.with p.judged
 
-  brought-is : (e : Entry) → model_parts call.words dumps s (inputs_end e s.inputs) (replies_end e s.replies) ≡ model_from p.with.names (brought e p.with.sections)
+  brought-is : (e : Entry) → model_parts call.words dumps s (inputs_of e call.words s.inputs) (replies_of e call.words s.replies) ≡ model_from p.with.names (brought e p.with.sections)
   brought-is e =
       model_is call.words s p.is_cut e dumps p.with.names (dumps_are call.names dumps p.with.names passed.names marks)
       ∙ ap (λ (S : rules.Sections). model_from p.with.names (brought e S)) (sym p.sections)
 
-  pub runnable : (e : Entry) → RunnableParts call.words dumps s (inputs_end e s.inputs) (replies_end e s.replies) call.result_room call.scratch_room
+  pub runnable : (e : Entry) → RunnableParts call.words dumps s (inputs_of e call.words s.inputs) (replies_of e call.words s.replies) call.result_room call.scratch_room
   unfolding RunnableParts model_parts
   runnable e =
       let h = p.is_cut in
@@ -203,37 +216,38 @@ module _ (call : Call) (s : Sections) (p : InOrder call s) (dumps : List ℕ) (m
   -- the outcome by the parts
   outcome_parts : (e : Entry)
       → outcome house e call
-      ≡ (fold (model_parts call.words dumps s (inputs_end e s.inputs) (replies_end e s.replies)) (mode_of call.mode)
-      >>= λ f. done (record { how = mode_of call.mode; model = model_parts call.words dumps s (inputs_end e s.inputs) (replies_end e s.replies); folded = f }))
+      ≡ (fold (model_parts call.words dumps s (inputs_of e call.words s.inputs) (replies_of e call.words s.replies)) (mode_of call.mode)
+      >>= λ f. done (record { how = mode_of call.mode; model = model_parts call.words dumps s (inputs_of e call.words s.inputs) (replies_of e call.words s.replies); folded = f }))
   outcome_parts e =
       outcome-is house e call
       ∙ ap (λ (q : Out Judged). q >>= fold_judged e) p.judged
       ∙ ap₂ (λ (m : Model) (how : Mode). fold m how >>= λ f. done (record { how = how; model = m; folded = f })) (sym (brought-is e)) passed.how
 
-  pub folded_left : (e : Entry) (r : Optimized) (Q : List ℕ) → length Q ≡ call.result_room
-      → Runs (model_parts call.words dumps s (inputs_end e s.inputs) (replies_end e s.replies)) (mode_of call.mode) call.result_room r Q
+  pub folded_left : (e : Entry) (r : Result ℕ tables.Refusal) (Q : List ℕ) → length Q ≡ call.result_room
+      → Runs (model_parts call.words dumps s (inputs_of e call.words s.inputs) (replies_of e call.words s.replies)) (mode_of call.mode) call.result_room r Q
       → (answered r ≡ (left house e call).answer) × (result_left r Q ≡ (left house e call).result)
   unfolding Ends left
-  folded_left e (Optimized.Done k) Q l h =
-      let m : Model = model_parts call.words dumps s (inputs_end e s.inputs) (replies_end e s.replies) in
+  folded_left e (Ok k) Q l h =
+      let m : Model = model_parts call.words dumps s (inputs_of e call.words s.inputs) (replies_of e call.words s.replies) in
       let o : outcome house e call ≡ done (record { how = mode_of call.mode; model = m; folded = h.0 }) =
       outcome_parts e ∙ ap (λ q. q >>= λ f. done (record { how = mode_of call.mode; model = m; folded = f })) h.1 in (
-        ap (λ (n : ℕ). answered (Optimized.Done n)) h.2.count ∙ sym (ap answer_of o),
+        ap (λ (n : ℕ). answered (Ok n)) h.2.count ∙ sym (ap answer_of o),
         h.2.words ∙ sym (ap (result_of call.result_room) o),
       )
-  folded_left e (Optimized.Refused r) Q l h =
-      let m : Model = model_parts call.words dumps s (inputs_end e s.inputs) (replies_end e s.replies) in
+  folded_left e (Err r) Q l h =
+      let m : Model = model_parts call.words dumps s (inputs_of e call.words s.inputs) (replies_of e call.words s.replies) in
       let o : outcome house e call ≡ refused (refusal_of r) = outcome_parts e ∙ ap (λ q. q >>= λ f. done (record { how = mode_of call.mode; model = m; folded = f })) h in
       (sym (ap answer_of o), ap (λ (n : ℕ). replicate n 0) l ∙ sym (ap (result_of call.result_room) o))
 
-  -- the same for the ends as the code has them
-  module _ (e : Entry) (i r : ℕ) (p₅ : i ≡ inputs_end e s.inputs) (p₆ : r ≡ replies_end e s.replies) where
+  -- the same for the parts as the code has them
+  module _ (e : Entry) (i r : List ℕ) (p₅ : i ≡ inputs_of e call.words s.inputs) where
     pub parts_ready : Inside call.words s × RunnableParts call.words dumps s i r call.result_room call.scratch_room
-    parts_ready = rw (p₅, p₆) (p.is_cut.inside, runnable e)
+    parts_ready = rw p₅ (p.is_cut.inside, any-replies call.words dumps s _ _ r call.result_room call.scratch_room (runnable e))
 
-    pub parts_left : (o : Optimized) (Q : List ℕ) → length Q ≡ call.result_room → Runs (model_parts call.words dumps s i r) (mode_of call.mode) call.result_room o Q
+    pub parts_left : r ≡ replies_of e call.words s.replies → (how : Mode) → how ≡ mode_of call.mode → (o : Result ℕ tables.Refusal) (Q : List ℕ) → length Q ≡ call.result_room → Runs (model_parts call.words dumps s i r) how call.result_room o Q
         → (answered o ≡ (left house e call).answer) × (result_left o Q ≡ (left house e call).result)
-    parts_left o Q l h =
+    parts_left p₆ how m o Q l h =
         folded_left e o Q l
-        (subst (λ (i : ℕ). Runs (model_parts call.words dumps s i (replies_end e s.replies)) (mode_of call.mode) call.result_room o Q) p₅
-        (subst (λ (r : ℕ). Runs (model_parts call.words dumps s i r) (mode_of call.mode) call.result_room o Q) p₆ h))
+        (subst (λ (how : Mode). Runs (model_parts call.words dumps s (inputs_of e call.words s.inputs) (replies_of e call.words s.replies)) how call.result_room o Q) m
+        (subst (λ (i : List ℕ). Runs (model_parts call.words dumps s i (replies_of e call.words s.replies)) how call.result_room o Q) p₅
+        (subst (λ (r : List ℕ). Runs (model_parts call.words dumps s i r) how call.result_room o Q) p₆ h)))

@@ -1,17 +1,17 @@
 -- What comes after a node's operands: it is finished, asked about, takes an input or is forwarded, as the rules say.
 -- Assumes nothing.
-use Prim.Native.Nat.{ℕ, suc, ◌+◌, ◌<◌, ◌≤◌}
-use mathlib.Core.Path.{◌≡◌, refl, ap, ap₂, sym, ◌∙◌, subst}
+use Prim.Native.Nat.{ℕ, suc, ◌+◌}
+use mathlib.Core.Path.{◌≡◌, refl, ap, ap₂, sym, ◌∙◌}
 use mathlib.Core.Bool.{Bool, true, false}
 use mathlib.Core.Option.{Option}
 use mathlib.Core.List.{List, [], ◌∷◌, ◌++◌}
 use native.Mathlib.Numerals.{add-one}
-use lib.ListN.{length, get_or, drop, drop_of_length-le, get_or-eq_default}
-use lib.Dec.{eqb}
-use lib.Seq.{drop-cons}
+use Rattle.std.specs.Prelude.{zero, Some, None, slice_get}
+use Rattle.std.proofs.Common.{add-zero}
+use borrow.Author.Rules.{rules}
+use lib.ListN.{drop}
 use borrow.Author.Tests.{eq-eqb, ne_eqb}
 use Rattle.btor.specs.Operators.{Reading}
-use Rattle.rules.specs.Model.{Mode}
 use Rattle.rules.specs.Refusal.{Out, done, refuse}
 use Rattle.rules.specs.Table.{fits}
 use Rattle.rules.specs.Walk.{St, Held, set_inputs, add_held, add_tally}
@@ -22,15 +22,14 @@ use Rattle.rules.specs.Questions.{ask_or, ask_bit, ask_ite, quiet}
 use Rattle.rules.specs.Visit.{Ways, new_number, settle, finish_stay, finish, forward, take_input}
 use Rattle.rules.proofs.Base.{no}
 use Rattle.optimize.specs.declared.walk.Walk.{Walk}
-use Rattle.optimize.specs.declared.walk.Visited.{Visited}
-use Rattle.optimize.specs.declared.fold.Constant.{Constant}
+use Rattle.std.specs.Prelude.{Option as Answer, Some, None}
 use Rattle.optimize.specs.declared.fold.Rule.{Rule}
 use Rattle.optimize.specs.declared.fold.Single.{Single}
 use Rattle.optimize.specs.declared.form.Pair.{Pair}
 use Rattle.optimize.specs.declared.memory.Search.{Search}
 use Rattle.optimize.specs.Bounds.{count_of}
 use Rattle.rules.specs.Sections.{word_of}
-use Rattle.optimize.specs.View.{node_of, table_of, rows_of, view, outcome_of, constant_is, ways_in, Meets}
+use Rattle.optimize.specs.View.{node_of, table_of, rows_of, view, constant_is}
 use Rattle.optimize.specs.Folding.{fold_two, fold_one, asks_bit, value_is, search_is}
 use Rattle.optimize.specs.Process.{is_stays, then_ask, settle_then, bit_of, take_of, after_one, after_rule, after_read, after_two, after_ite}
 use Rattle.optimize.proofs.Steps.{table-length}
@@ -94,13 +93,13 @@ module _ (g : List ℕ) (ways : Ways) (σ : St) (k x y : ℕ) (pair : Pair) wher
 
 -- ---- forwarding
 module _ (h : List Held) (g inputs replies R S : List ℕ) (w : Walk) (ways : Ways) (k m : ℕ) where
-  pub forward-none : (c : Constant) → c ≡ Constant.None
+  pub forward-none : (c : Answer ℕ) → c ≡ None
       → settle (table_of g) ways k (view h g inputs replies R S w) stays ≡ forward (table_of g) ways k (view h g inputs replies R S w) m (constant_is c)
   unfolding forward
   forward-none c e = sym (ap (λ z. forward (table_of g) ways k (view h g inputs replies R S w) m (constant_is z)) e)
 
   -- what a search found is recorded with its counts
-  pub forward-some : (c : Constant) (x : ℕ) (how : Reading) (s : Search) (w' : Walk) (p : ℕ) (F : Fold) → c ≡ Constant.Imm x → how ≡ ways.reading
+  pub forward-some : (c : Answer ℕ) (x : ℕ) (how : Reading) (s : Search) (w' : Walk) (p : ℕ) (F : Fold) → c ≡ Some x → how ≡ ways.reading
       → search_is s ≡ find how (count_of g) (rows_of (count_of g) w.made R) x m
       → p ≡ passed_by (value_is s.found) s.passed → F ≡ fold_found (value_is s.found)
       → view h g inputs replies R S w' ≡ add_tally (view h g inputs replies R S w) s.looked p
@@ -117,6 +116,11 @@ pub tally_is : (h : List Held) (g inputs replies R S : List ℕ) (w : Walk) (l p
     → view h g inputs replies R S (record { made = w.made; taken = w.taken; used = w.used; asked = w.asked; looked = w.looked + l; passed = w.passed + p }) ≡ add_tally (view h g inputs replies R S w) l p
 unfolding view
 tally_is h g inputs replies R S w l p = refl
+
+pub looked_is : (h : List Held) (g inputs replies R S : List ℕ) (w : Walk) (l : ℕ)
+    → view h g inputs replies R S (record { made = w.made; taken = w.taken; used = w.used; asked = w.asked; looked = w.looked + l; passed = w.passed }) ≡ add_tally (view h g inputs replies R S w) l 0
+unfolding view
+looked_is h g inputs replies R S w l = rw (add-zero w.passed)
 
 -- ---- inputs
 module _ (g : List ℕ) (ways : Ways) (σ : St) (k : ℕ) where
@@ -146,16 +150,30 @@ module _ (g : List ℕ) (ways : Ways) (σ : St) (k : ℕ) where
       unfolding take_input
       take-made s l = sym (ap take_at e ∙ rw (take_input, d, ne_eqb (word_of g k 1) 3 s, l))
 
+left-none : (l : List ℕ) (k : ℕ) → slice_get l k ≡ None → drop k l ≡ []
+left-none [] zero e = refl
+left-none [] (suc k) e = refl
+left-none (x ∷ l) zero e = let o : ⊥ = search (rules, e) in absurd o
+left-none (x ∷ l) (suc k) e = left-none l k e
+
+some-same : (y x : ℕ) → Some y ≡ Some x → y ≡ x
+some-same y x e = cc
+
+left-some : (l : List ℕ) (k x : ℕ) → slice_get l k ≡ Some x → drop k l ≡ x ∷ drop (suc k) l
+left-some [] k x e = let o : ⊥ = search (rules, e) in absurd o
+left-some (y ∷ l) zero x e = ap (λ z. z ∷ l) (some-same y x e)
+left-some (y ∷ l) (suc k) x e = left-some l k x e
+
 module _ (h : List Held) (g inputs replies R S : List ℕ) (w : Walk) where
   inputs_are : (view h g inputs replies R S w).inputs ≡ drop w.taken inputs
   unfolding view
   inputs_are = refl
 
-  pub inputs-none : length inputs ≤ w.taken → (view h g inputs replies R S w).inputs ≡ []
-  inputs-none l = inputs_are ∙ drop_of_length-le inputs l
+  pub inputs-none : slice_get inputs w.taken ≡ None → (view h g inputs replies R S w).inputs ≡ []
+  inputs-none e = inputs_are ∙ left-none inputs w.taken e
 
-  pub inputs-some : w.taken < length inputs → (view h g inputs replies R S w).inputs ≡ get_or inputs w.taken 0 ∷ drop (suc w.taken) inputs
-  inputs-some l = inputs_are ∙ drop-cons inputs w.taken 0 l
+  pub inputs-some : (x : ℕ) → slice_get inputs w.taken ≡ Some x → (view h g inputs replies R S w).inputs ≡ x ∷ drop (suc w.taken) inputs
+  inputs-some x e = inputs_are ∙ left-some inputs w.taken x e
 
   -- the state that took the input is held by the new constant
   pub took : (k r : ℕ)
@@ -163,9 +181,6 @@ module _ (h : List Held) (g inputs replies R S : List ℕ) (w : Walk) where
       ≡ add_held (set_inputs (view h g inputs replies R S w) (drop (suc w.taken) inputs)) k r
   unfolding view
   took k r = rw (add-one w.taken)
-
-pub dump-past : (ds : List ℕ) (name : ℕ) → length ds ≤ name → eqb (get_or ds name 0) 1 ≡ false
-dump-past ds name l = ap (λ x. eqb x 1) (get_or-eq_default ds 0 {n = name} l)
 
 -- ---- the questions of an Ite
 module _ (g : List ℕ) (ways : Ways) (k : ℕ) (σ : St) (x y z : ℕ) (m : ways.minimise ≡ true) where
@@ -182,22 +197,3 @@ module _ (g : List ℕ) (ways : Ways) (k : ℕ) (σ : St) (x y z : ℕ) (m : way
 
   pub ite-other : (word_of g k 1 ≡ 1 → ⊥) → (word_of g k 1 ≡ 2 → ⊥) → settle (table_of g) ways k σ stays ≡ after_ite g ways σ k x y z
   ite-other d s = ite-asks (done (σ, stays)) (rw (ne_eqb (word_of g k 1) 1 d, ne_eqb (word_of g k 1) 2 s))
-
--- ---- over the parts that the words of a call name
-module _ (h : List Held) (g inputs dumps reps reps' R S : List ℕ) (w : Walk) (m : Mode) (k : ℕ) (r : Visited) (R' S' : List ℕ) (e : reps ≡ reps') where
-  pub finish-by : (F : Fold) (b : Bool) → is_stays F ≡ true → m.minimise ≡ true → b ≡ true
-      → outcome_of h g inputs reps r R' S' ≡ settle_then g (ways_in dumps m reps) k (ask_bit (length reps) (count_of g) k quiet (view h g inputs reps R S w))
-      → outcome_of h g inputs reps' r R' S' ≡ finish (table_of g) (ways_in dumps m reps') k (view h g inputs reps' R S w) F (bit_of g (ways_in dumps m reps') k b)
-  finish-by F b i j d o =
-      subst (λ z. outcome_of h g inputs z r R' S' ≡ finish (table_of g) (ways_in dumps m z) k (view h g inputs z R S w) F (bit_of g (ways_in dumps m z) k b)) e
-      (o
-      ∙ ap (settle_then g (ways_in dumps m reps) k) (bit-asks g (ways_in dumps m reps) k b (view h g inputs reps R S w) d)
-      ∙ finish-asks g (ways_in dumps m reps) k (view h g inputs reps R S w) F (bit_of g (ways_in dumps m reps) k b) i j)
-
-  pub ite-by : (x y z : ℕ) → outcome_of h g inputs reps r R' S' ≡ after_ite g (ways_in dumps m reps) (view h g inputs reps R S w) k x y z
-      → outcome_of h g inputs reps' r R' S' ≡ after_ite g (ways_in dumps m reps') (view h g inputs reps' R S w) k x y z
-  ite-by x y z o = subst (λ t. outcome_of h g inputs t r R' S' ≡ after_ite g (ways_in dumps m t) (view h g inputs t R S w) k x y z) e o
-
-pub take_by : (h : List Held) (g ins ins' reps R S : List ℕ) (w : Walk) (ways : Ways) (k : ℕ) (r : Visited) (R' S' : List ℕ) → ins ≡ ins'
-    → Meets g ins reps r R' S' (take_of g ways (view h g ins reps R S w) k) → Meets g ins' reps r R' S' (take_of g ways (view h g ins' reps R S w) k)
-take_by h g ins ins' reps R S w ways k r R' S' e m = subst (λ t. Meets g t reps r R' S' (take_of g ways (view h g t reps R S w) k)) e m

@@ -13,6 +13,9 @@ use Rattle.rules.specs.Legal.{AllLegal}
 use Rattle.rules.specs.Walk.{St}
 use Rattle.rules.specs.Fold.{stays, const_of}
 use Rattle.rules.specs.Visit.{Ways, Branch, left, right, undecided, branch, visit1, visit2, visit3, unary, binary, ite_on, process}
+use Rattle.std.specs.Prelude.{Result}
+use Rattle.tables.specs.declared.refusal.Refusal.{Refusal}
+use Rattle.optimize.specs.declared.folder.ConstantFolder.{ConstantFolder}
 use Rattle.optimize.specs.declared.form.Form.{Form}
 use Rattle.optimize.specs.declared.form.Pair.{Pair}
 use Rattle.optimize.specs.Bounds.{count_of}
@@ -21,10 +24,13 @@ use Rattle.optimize.specs.View.{node_of, table_of}
 use Rattle.optimize.specs.declared.fold.Rule.{Rule}
 use Rattle.optimize.specs.declared.fold.Single.{Single}
 use Rattle.optimize.specs.Folding.{operator_of}
-use Rattle.optimize.specs.Process.{form_of, form_at, after_one, after_two, take_of, process_of, one_of, two_then, two_of, three_of, chosen_of, ite_of, step_of, by_form, Before}
+use Rattle.optimize.specs.Call.{ways_of}
+use Rattle.optimize.specs.Folder.{given_in, seen}
+use Rattle.optimize.specs.Clauses.{Walks}
+use Rattle.optimize.specs.Process.{form_of, form_at, after_one, after_two, take_of, process_of, one_of, two_then, two_of, three_of, chosen_of, ite_of, step_of, by_form, visit_of, Before}
 use Rattle.optimize.proofs.FoldLaws.{op-is}
 use Rattle.optimize.proofs.Steps.{table-length}
-use Rattle.optimize.proofs.Walks.{node_at_lem}
+use Rattle.optimize.proofs.Walks.{comes, node_at_lem}
 
 -- ---- binds
 pub assoc : {A B C : Type 0} (o : Out A) (f : A → Out B) (k : B → Out C) → ((o >>= f) >>= k) ≡ (o >>= λ x. f x >>= k)
@@ -99,6 +105,11 @@ module _ (g : List ℕ) (ways : Ways) (vis : St → ℕ → Out (St × ℕ)) (σ
 
   pub process-is : (F : Form) → F ≡ form_at g k → by_form g ways vis F σ k ≡ process_of g ways vis σ k
   process-is F d = ap (λ z. by_form g ways vis z σ k) d ∙ form_is (kind_of (word_of g k 0))
+
+-- a node is processed as its form says
+pub formed : (f f' : ConstantFolder) (r : Result ℕ Refusal) (n : ℕ) (F : Form) → F ≡ form_at (given_in f) n
+    → Walks f f' r n (λ g ways vis σ. by_form g ways vis F σ n) → Walks f f' r n (λ g ways vis σ. process_of g ways vis σ n)
+formed f f' r n F e w h fuel l = comes (w h fuel l) (process-is (given_in f) (ways_of f.call) (visit_of (given_in f) (ways_of f.call) fuel) (seen h f) n F e)
 
 -- ---- operands before their node
 before-state : (g : List ℕ) (k : ℕ) (b : Bool) → All (λ x. x < k) (cond b (word_of g k 2 ∷ []) []) → Before (cond b (Form.One Single.Stays) Form.Free) g k

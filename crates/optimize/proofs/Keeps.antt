@@ -1,9 +1,9 @@
 -- What the walk keeps: a done visit leaves the buffers laid as they were, with marks from the next node on unchanged.
 -- Assumes nothing.
 use Prim.Native.Nat.{ℕ, zero, suc, ◌+◌, ◌<◌, ◌≤◌}
-use mathlib.Core.Path.{◌≡◌, ap, sym, ◌∙◌, subst}
+use mathlib.Core.Path.{◌≡◌, refl, ap, sym, ◌∙◌, subst}
 use mathlib.Core.Bool.{true}
-use mathlib.Core.List.{List}
+use mathlib.Core.List.{List, []}
 use native.Mathlib.Omega.{arith}
 use lib.ListN.{length}
 use lib.Dec.{eqb}
@@ -13,25 +13,32 @@ use Rattle.rules.specs.Refusal.{done}
 use Rattle.rules.specs.Check.{known_sort}
 use Rattle.rules.specs.Table.{Kind, Write, Node, kind_of, kind_code, with, is}
 use Rattle.rules.specs.Room.{due, unpaid}
-use Rattle.rules.specs.Walk.{St, Mark, fresh, Held, set_row}
+use Rattle.rules.specs.Walk.{St, Mark, fresh, Held}
 use Rattle.rules.specs.Visit.{Ways}
 use Rattle.rules.specs.Fine.{fee}
 use Rattle.rules.proofs.Base.{If, no, put_all}
 use Rattle.rules.proofs.Shape.{points}
 use Rattle.rules.proofs.Went.{Visited}
 use Rattle.rules.proofs.Structure.{visit_went}
+use Rattle.std.specs.Prelude.{Result, Ok, Err, OnOk}
+use Rattle.tables.specs.declared.refusal.Refusal.{Refusal}
 use Rattle.optimize.specs.declared.walk.Walk.{Walk}
-use Rattle.optimize.specs.declared.walk.Visited as Answer
+use Rattle.optimize.specs.declared.call.Call.{Call}
+use Rattle.optimize.specs.declared.folder.ConstantFolder.{ConstantFolder}
 use Rattle.optimize.specs.declared.form.Form.{Form}
 use Rattle.optimize.specs.declared.form.Pair.{Pair}
 use Rattle.optimize.specs.Bounds.{count_of}
 use Rattle.rules.specs.Sections.{word_of}
 use Rattle.optimize.specs.View.{node_of, Coded, row_of, RowKept, table_of, ways_in, rows_of, mark_of, question_of, view}
 use Rattle.optimize.specs.Folding.{Falls}
-use Rattle.optimize.specs.Process.{form_of, form_at, visit_of}
-use Rattle.optimize.specs.Laid.{Laid, Room, Visits}
+use Rattle.optimize.specs.Process.{form_of, form_at, visit_of, Before}
+use Rattle.optimize.specs.Laid.{Laid, Room}
+use Rattle.optimize.specs.Call.{mode_is, ways_of}
+use Rattle.optimize.specs.Folder.{given_in, count_in, rows_in, seen, Keeps, LaidIn, RoomIn, FreshIn}
+use Rattle.optimize.specs.Clauses.{PutsRow, Walks}
 use Rattle.optimize.proofs.Views.{split, firsts-length, row_below, coded-sort}
 use Rattle.optimize.proofs.Steps.{table-length}
+use Rattle.optimize.proofs.Forms.{before-is}
 use Rattle.optimize.proofs.Walks.{came-done, node_at_lem}
 
 -- ---- what a fresh node may spend
@@ -102,18 +109,6 @@ two-no-write pair K b e q =
     let o : ◌≡◌ {A = ℕ} 0 1 = cc in
     omega arith
 
--- the row of such a node put: the Writes are as they were
-pub falls-row : (h : List Held) (g inputs replies R Q S : List ℕ) (w : Walk) (pair : Pair) (k x y c : ℕ) → Form.Two pair ≡ form_at g k
-    → view h g inputs replies Q S w ≡ set_row (view h g inputs replies R S w) k (with (node_of g k) x y c) → Falls (count_of g) w.made R → Falls (count_of g) w.made Q
-unfolding view
-falls-row h g inputs replies R Q S w pair k x y c e v p =
-    let same : rows_of (count_of g) w.made Q ≡ put (rows_of (count_of g) w.made R) k (with (node_of g k) x y c) = ap (λ (σ : St). σ.rows) v in
-    let none : is Write (with (node_of g k) x y c) ≡ true → ⊥ = two-no-write pair (kind_of (word_of g k 0)) (word_of g k 3) e in
-    record {
-      memory = λ m b. subst (λ (r : ℕ → Node). is Write (r m) ≡ true → (r m).a < count_of g → (r m).a < m) (sym same)
-          (put_all (λ m (nd : Node). m < count_of g → is Write nd ≡ true → nd.a < count_of g → nd.a < m) (rows_of (count_of g) w.made R) k (with (node_of g k) x y c) (λ _ q. absurd (none q)) p.memory m b);
-    }
-
 -- ---- from one call to the next
 module _ (g dumps inputs replies : List ℕ) (mode : Mode) (reserve : ℕ) (R S Q T : List ℕ) (w w' : Walk) (f k a : ℕ) (h' : List Held) (l : Laid g dumps inputs replies mode reserve R S w) (i : k < count_of g)
     (e : visit_of g (ways_in dumps mode replies) f (view l.held g inputs replies R S w) k ≡ done (view h' g inputs replies Q T w', a)) where
@@ -160,36 +155,87 @@ module _ (g dumps inputs replies : List ℕ) (mode : Mode) (reserve : ℕ) (R S 
         looks = omega (arith, l.looks, looked-kept);
       }
 
--- ---- ready at a fresh node
-pub record Ready (g dumps inputs replies : List ℕ) (mode : Mode) (reserve : ℕ) (R S : List ℕ) (w : Walk) (n : ℕ) : Type 0 where
-  pub laid : Laid g dumps inputs replies mode reserve R S w
-  pub inside : n < count_of g
-  pub fresh : mark_of (count_of g) S n ≡ fresh
+-- ---- the folder from one visit to the next
+-- what lies in f', by another call
+abbrev pub seen_by : Call → List Held → ConstantFolder → St
+seen_by c h f' = view h c.given.now c.inputs.now c.replies.now f'.res.now f'.scratch.now f'.walk
 
-module _ (g dumps inputs replies : List ℕ) (mode : Mode) (reserve : ℕ) (R S : List ℕ) (w : Walk) (n : ℕ) where
-  pub ready : Laid g dumps inputs replies mode reserve R S w → n < count_of g → mark_of (count_of g) S n ≡ fresh → Ready g dumps inputs replies mode reserve R S w n
-  ready l i e = record { laid = l; inside = i; fresh = e }
+abbrev LaidBy : Call → ConstantFolder → Type 0
+LaidBy c f' = Laid c.given.now c.dumps.now c.inputs.now c.replies.now (mode_is c.mode) 0 f'.res.now f'.scratch.now f'.walk
 
-  pub ready-room : Ready g dumps inputs replies mode reserve R S w n → Room g R S w n
-  ready-room r = roomy g dumps inputs replies mode reserve R S w r.laid n r.inside r.fresh
+module _ (f f' : ConstantFolder) (k a : ℕ) (e : Keeps f f') (l : LaidIn f) (i : k < count_in f) (v : Walks f f' (Ok a) (k + 1) (λ g ways vis σ. vis σ k)) where
+  -- the rules' visit from the states that took an input before
+  pub visited : (h' : List Held) × (visit_of (given_in f) (ways_of f.call) (k + 1) (seen l.held f) k ≡ done (seen_by f.call h' f', a))
+  visited =
+      let m = v l.held (k + 1) (omega arith) in
+      (m.held, came-done m ∙ ap (λ c. done (seen_by c m.held f', a)) e.call)
 
-  pub ready-falls : Ready g dumps inputs replies mode reserve R S w n → Falls (count_of g) w.made R
-  ready-falls r = falls g dumps inputs replies mode reserve R S w r.laid
+  -- a visit that is done leaves the folder laid, and the marks after its node as they were
+  pub laid-after : LaidIn f'
+  laid-after =
+      subst (λ c. LaidBy c f') (sym e.call)
+      (laid_on f.call.given.now f.call.dumps.now f.call.inputs.now f.call.replies.now (mode_is f.call.mode) 0 f.res.now f.scratch.now f'.res.now f'.scratch.now f.walk f'.walk (k + 1) k a visited.0 l i visited.1 e.res_length e.scratch_length)
 
-  pub ready-kept : Ready g dumps inputs replies mode reserve R S w n → RowKept g R n
-  ready-kept r = row_kept g dumps inputs replies mode reserve R S w r.laid n r.inside
-
-  -- a visit of a node below n that is done leaves n ready
-  pub ready_on : (Q T : List ℕ) (w' : Walk) (k a : ℕ) (v : Answer.Visited) → Ready g dumps inputs replies mode reserve R S w n → k < n
-      → Visits g inputs replies R S w v Q T (k + 1) (λ f σ. visit_of g (ways_in dumps mode replies) f σ k) → v ≡ Answer.Visited.Done w' a
-      → length Q ≡ length R → length T ≡ length S → Ready g dumps inputs replies mode reserve Q T w' n
-  ready_on Q T w' k a v r b m e p q =
-      let h = r.laid.held in
-      let z = m h (k + 1) (omega arith) in
-      let i : k < count_of g = omega (arith, r.inside) in
-      let d = came-done g inputs replies Q T v (visit_of g (ways_in dumps mode replies) (k + 1) (view h g inputs replies R S w) k) z w' a e in
+  pub ready-after : (n : ℕ) → k < n → FreshIn f n → FreshIn f' n
+  ready-after n b r =
+      let same : count_in f' ≡ count_in f = ap (λ (c : Call). count_of c.given.now) e.call in
       record {
-        laid = laid_on g dumps inputs replies mode reserve R S Q T w w' (k + 1) k a z.0 r.laid i d p q;
-        inside = r.inside;
-        fresh = still g dumps inputs replies mode reserve R S Q T w w' (k + 1) k a z.0 r.laid i d n b ∙ r.fresh;
+        laid = laid-after;
+        inside = omega (arith, same, r.inside);
+        fresh = ap (λ c. mark_of c f'.scratch.now n) same
+            ∙ still f.call.given.now f.call.dumps.now f.call.inputs.now f.call.replies.now (mode_is f.call.mode) 0 f.res.now f.scratch.now f'.res.now f'.scratch.now f.walk f'.walk (k + 1) k a visited.0 l i visited.1 n b
+            ∙ r.fresh;
       }
+
+-- ---- at a node still to be visited
+module _ (f : ConstantFolder) (n : ℕ) (r : FreshIn f n) where
+  pub ready-room : RoomIn f n
+  ready-room = roomy (given_in f) f.call.dumps.now f.call.inputs.now f.call.replies.now (mode_is f.call.mode) 0 f.res.now f.scratch.now f.walk r.laid n r.inside r.fresh
+
+  pub ready-falls : Falls (count_in f) f.walk.made f.res.now
+  ready-falls = falls (given_in f) f.call.dumps.now f.call.inputs.now f.call.replies.now (mode_is f.call.mode) 0 f.res.now f.scratch.now f.walk r.laid
+
+  pub ready-kept : RowKept (given_in f) f.res.now n
+  ready-kept = row_kept (given_in f) f.call.dumps.now f.call.inputs.now f.call.replies.now (mode_is f.call.mode) 0 f.res.now f.scratch.now f.walk r.laid n r.inside
+
+  -- its operands stand before it
+  pub ready-before : (F : Form) → F ≡ form_at (given_in f) n → Before F (given_in f) n
+  ready-before F e = before-is (given_in f) n r.laid.legal r.inside F e
+
+-- the row of a node of two operands put: the Writes are as they were
+pub row-falls : (f f' : ConstantFolder) → Keeps f f' → (pair : Pair) (n x y c : ℕ) → Form.Two pair ≡ form_at (given_in f) n → PutsRow f f' n x y c
+    → Falls (count_in f) f.walk.made f.res.now → Falls (count_in f') f'.walk.made f'.res.now
+unfolding view
+row-falls f f' e pair n x y c form p falls =
+    let put_row : Node = with (node_of (given_in f) n) x y c in
+    let same : rows_in f' ≡ put (rows_in f) n put_row = ap (λ (σ : St). σ.rows) (p []) in
+    let count : count_in f' ≡ count_in f = ap (λ (d : Call). count_of d.given.now) e.call in
+    let none : is Write put_row ≡ true → ⊥ = two-no-write pair (kind_of (word_of (given_in f) n 0)) (word_of (given_in f) n 3) form in
+    let all : (m : ℕ) → m < count_in f → is Write (put (rows_in f) n put_row m) ≡ true → (put (rows_in f) n put_row m).a < count_in f → (put (rows_in f) n put_row m).a < m =
+    put_all (λ m (nd : Node). m < count_in f → is Write nd ≡ true → nd.a < count_in f → nd.a < m) (rows_in f) n put_row (λ _ q. absurd (none q)) falls.memory in
+    record {
+      memory = λ m b. subst (λ (r : ℕ → Node). is Write (r m) ≡ true → (r m).a < count_in f' → (r m).a < m) (sym same) (λ q l. all m (omega (arith, b, count)) q (omega (arith, l, count)));
+    }
+
+-- the operands of the same call
+pub before-on : (f f' : ConstantFolder) → Keeps f f' → (n k : ℕ) → word_of (given_in f) n k < n → word_of (given_in f') n k < n
+before-on f f' e n k b = subst (λ (c : Call). word_of c.given.now n k < n) (sym e.call) b
+
+-- what an answer leaves where it is one
+pub on-ok : (r : Result ℕ Refusal) (P : Type 0) → ((a : ℕ) → r ≡ Ok a → P) → OnOk r P
+on-ok (Ok a) P h = h a refl
+on-ok (Err z) P h = tt
+
+-- ---- one step after another
+pub keeps_none : (f : ConstantFolder) → Keeps f f
+keeps_none f = record { call = refl; res = refl; scratch = refl; res_length = refl; scratch_length = refl }
+
+pub keeps_then : (f f₁ f₂ : ConstantFolder) → Keeps f f₁ → Keeps f₁ f₂ → Keeps f f₂
+keeps_then f f₁ f₂ a b =
+    record {
+      call = b.call ∙ a.call;
+      res = b.res ∙ a.res;
+      scratch = b.scratch ∙ a.scratch;
+      res_length = b.res_length ∙ a.res_length;
+      scratch_length = b.scratch_length ∙ a.scratch_length;
+    }

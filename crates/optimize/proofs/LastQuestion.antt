@@ -2,24 +2,34 @@
 -- Assumes nothing.
 use Prim.Native.Nat.{ℕ, zero, suc, ◌-◌, ◌≤◌}
 use mathlib.Core.Path.{◌≡◌, refl, ap, ap₂, sym, ◌∙◌}
-use mathlib.Core.Bool.{Bool, true, false, cond}
+use mathlib.Core.Bool.{Bool, true, false}
 use mathlib.Core.List.{List, [], ◌∷◌, ◌++◌, map}
 use native.Mathlib.Omega.{arith}
 use lib.ListN.{length, get_or}
-use lib.Dec.{eqb, leb}
-use borrow.Author.Tests.{eq-eqb, ne_eqb}
-use Rattle.rules.specs.Refusal.{done, refuse}
+use lib.Dec.{leb}
+use Rattle.rules.specs.Refusal.{Out, done, refuse}
 use Rattle.rules.specs.Model.{Model, Mode}
 use Rattle.rules.specs.Walk.{St, Question, Held, add_asked}
 use Rattle.rules.specs.Questions.{ask, most, first_reply, other_replies, question}
 use Rattle.rules.specs.Whole.{last_question}
 use Rattle.optimize.specs.declared.walk.Walk.{Walk}
-use Rattle.optimize.specs.declared.smt_solver.Asked.{Asked}
-use Rattle.optimize.specs.declared.last_question.Answered.{Answered}
+use Rattle.optimize.specs.declared.folder.ConstantFolder.{ConstantFolder}
+use Rattle.tables.specs.declared.refusal.Refusal as tables
+use Rattle.std.specs.Prelude.{Ok, Err}
 use Rattle.optimize.specs.Bounds.{count_of}
-use Rattle.optimize.specs.View.{firsts, question_of, view}
-use Rattle.optimize.specs.Process.{asked_of}
-use Rattle.optimize.specs.LastQuestion.{answered_of, verdict_then, unnamed, without_bads, forgotten}
+use Rattle.optimize.specs.View.{firsts, question_of, view, outcome_of}
+use Rattle.optimize.specs.Folder.{seen}
+use denote.Enum.Declared.{tag_of}
+use Rattle.optimize.specs.contracts.last_question.Verdict.{the_type}
+use Rattle.optimize.specs.declared.last_question.Verdict.{Verdict}
+use Rattle.optimize.specs.LastQuestion.{verdict_is, answered_of, verdict_of, verdict_then, unnamed, without_bads, forgotten}
+
+-- ---- a verdict is the number that the tally has for it
+pub verdict-number : (v : Verdict) → tag_of the_type v ≡ verdict_is v
+verdict-number Verdict.Unasked = refl
+verdict-number Verdict.Found = refl
+verdict-number Verdict.NotFound = refl
+verdict-number Verdict.NoneLeft = refl
 
 -- ---- nothing is forgotten of a state that lies in the buffers
 map_more : (xs : List Question) (q : Question) → map unnamed (xs ++ (q ∷ [])) ≡ map unnamed xs ++ (unnamed q ∷ [])
@@ -49,7 +59,7 @@ same_asked count σ q x y bs = go (leb (first_reply σ.replies) (most q))
 
     go : (b : Bool) → forgotten (verdict_then (elim b [ true ↦ done (add_asked σ (other_replies σ.replies) (question q x y bs (first_reply σ.replies)), first_reply σ.replies) | false ↦ refuse 11 6 (count - length σ.replies) ]))
         ≡ forgotten (verdict_then (elim b [ true ↦ done (add_asked σ (other_replies σ.replies) (question q x y [] (first_reply σ.replies)), first_reply σ.replies) | false ↦ refuse 11 6 (count - length σ.replies) ]))
-    go true = ap (λ τ. done (τ, cond (eqb (first_reply σ.replies) 1) 2 1)) (same bs ∙ sym (same []))
+    go true = ap (λ τ. done (τ, verdict_of (first_reply σ.replies))) (same bs ∙ sym (same []))
     go false = refl
 
 -- ---- by how many are left
@@ -71,39 +81,29 @@ module _ (m : Model) (how : Mode) (σ : St) where
   many_left (b ∷ []) e = let o : ⊥ = omega arith in absurd o
   many_left (b ∷ c ∷ l) e = refl
 
--- what the question left is as it stands
-plain-asked : (h : List Held) (g inputs replies R S : List ℕ) (a : Asked) → verdict_then (asked_of h g inputs replies a R S) ≡ forgotten (verdict_then (asked_of h g inputs replies a R S))
-unfolding asked_of
-plain-asked h g inputs replies R S (Asked.Reply w r) = ap (λ τ. done (τ, cond (eqb r 1) 2 1)) (sym (plain-view h g inputs replies R S w))
-plain-asked h g inputs replies R S (Asked.Refused z) = refl
+-- ---- what the question left is as it stands
+pub plain-seen : (h : List Held) (f : ConstantFolder) → without_bads (seen h f) ≡ seen h f
+plain-seen h f = plain-view h f.call.given.now f.call.inputs.now f.call.replies.now f.res.now f.scratch.now f.walk
 
-module _ (h : List Held) (g inputs replies R S E : List ℕ) (w : Walk) (m : Model) (how : Mode) (c : length m.replies ≡ length replies) where
-  abbrev σ : St
-  σ = view h g inputs replies R S w
+module _ (h : List Held) (f : ConstantFolder) (o : Out (St × ℕ)) where
+  pub verdict-stop : (z : tables.Refusal) → outcome_of {A = ℕ} (seen h f) (Err z) ≡ o → answered_of (seen h f) (Err z) ≡ forgotten (verdict_then o)
+  unfolding outcome_of answered_of
+  verdict-stop z e = ap (λ x. forgotten (verdict_then x)) e
 
-  pub last_none : length E ≡ 0 → answered_of h g inputs replies (Answered.Done w 3) R S ≡ forgotten (last_question m how σ E)
+  pub verdict-reply : (r : ℕ) (v : Verdict) → outcome_of (seen h f) (Ok r) ≡ o → verdict_is v ≡ verdict_of r → answered_of (seen h f) (Ok v) ≡ forgotten (verdict_then o)
+  unfolding outcome_of answered_of
+  verdict-reply r v e d = ap₂ (λ τ x. done (τ, x)) (sym (plain-seen h f)) d ∙ ap (λ x. forgotten (verdict_then x)) e
+
+module _ (m : Model) (how : Mode) (h : List Held) (f : ConstantFolder) (E : List ℕ) where
+  pub last_none : length E ≡ 0 → answered_of (seen h f) (Ok Verdict.NoneLeft) ≡ forgotten (last_question m how (seen h f) E)
   unfolding answered_of
-  last_none e = ap (λ τ. done (τ, 3)) (sym (plain-view h g inputs replies R S w)) ∙ sym (ap forgotten (none_left m how σ E e))
+  last_none e = ap (λ τ. done (τ, 3)) (sym (plain-seen h f)) ∙ sym (ap forgotten (none_left m how (seen h f) E e))
 
-  module _ (r : Answered) (a : Asked) (T : List ℕ) (v : answered_of h g inputs replies r R T ≡ verdict_then (asked_of h g inputs replies a R T)) where
-    pub last_one : length E ≡ 1 → (b : ℕ) → b ≡ get_or E 0 0 → asked_of h g inputs replies a R T ≡ ask (length replies) σ 2 b 0 [] → answered_of h g inputs replies r R T ≡ forgotten (last_question m how σ E)
-    last_one e b d q =
-        v ∙ plain-asked h g inputs replies R T a
-        ∙ ap (λ o. forgotten (verdict_then o)) (q ∙ ap₂ (λ n z. ask n σ 2 z 0 []) (sym c) d) ∙ sym (ap forgotten (one_left m how σ E e))
+  module _ (n : ℕ) (c : length m.replies ≡ n) where
+    pub last_one : length E ≡ 1 → (b : ℕ) → b ≡ get_or E 0 0 → forgotten (verdict_then (ask n (seen h f) 2 b 0 [])) ≡ forgotten (last_question m how (seen h f) E)
+    last_one e b d = ap₂ (λ k z. forgotten (verdict_then (ask k (seen h f) 2 z 0 []))) (sym c) d ∙ sym (ap forgotten (one_left m how (seen h f) E e))
 
-    pub last_many : 2 ≤ length E → (k : ℕ) → k ≡ length E → asked_of h g inputs replies a R T ≡ ask (length replies) σ 5 k 0 [] → answered_of h g inputs replies r R T ≡ forgotten (last_question m how σ E)
-    last_many e k d q =
-        v ∙ plain-asked h g inputs replies R T a
-        ∙ ap (λ o. forgotten (verdict_then o)) (q ∙ ap₂ (λ n z. ask n σ 5 z 0 []) (sym c) d) ∙ sym (same_asked (length m.replies) σ 5 (length E) 0 E) ∙ sym (ap forgotten (many_left m how σ E e))
-
--- ---- the verdict by the reply
-module _ (h : List Held) (g inputs replies R S : List ℕ) (a : Asked) where
-  pub verdict-reply : (w : Walk) (r v : ℕ) → a ≡ Asked.Reply w r → v ≡ cond (eqb r 1) 2 1 → answered_of h g inputs replies (Answered.Done w v) R S ≡ verdict_then (asked_of h g inputs replies a R S)
-  unfolding answered_of asked_of
-  verdict-reply w r v e d = ap (λ z. done (view h g inputs replies R S w, z)) d ∙ sym (ap (λ x. verdict_then (asked_of h g inputs replies x R S)) e)
-
-pub verdict-two : (r : ℕ) → r ≡ 1 → ◌≡◌ {A = ℕ} 2 (cond (eqb r 1) 2 1)
-verdict-two r e = sym (ap (λ b. cond {A = ℕ} b 2 1) (eq-eqb r 1 e))
-
-pub verdict_one : (r : ℕ) → (r ≡ 1 → ⊥) → ◌≡◌ {A = ℕ} 1 (cond (eqb r 1) 2 1)
-verdict_one r e = sym (ap (λ b. cond {A = ℕ} b 2 1) (ne_eqb r 1 e))
+    pub last_many : 2 ≤ length E → forgotten (verdict_then (ask n (seen h f) 5 (length E) 0 [])) ≡ forgotten (last_question m how (seen h f) E)
+    last_many e =
+        ap (λ k. forgotten (verdict_then (ask k (seen h f) 5 (length E) 0 []))) (sym c) ∙ sym (same_asked (length m.replies) (seen h f) 5 (length E) 0 E)
+        ∙ sym (ap forgotten (many_left m how (seen h f) E e))

@@ -17,9 +17,8 @@ use Rattle.rules.specs.Sections.{word_of}
 use Rattle.optimize.specs.View.{node_of, firsts, table_of, rows_of, mark_of, view}
 use Rattle.optimize.specs.Demand.{replacements_on, sort_in, byte_table, words_with, SortsCanFail}
 use Rattle.optimize.specs.ResultView.{Finished, ModelOf, folded_in}
+use Rattle.optimize.specs.declared.lists.Lists.{Lists}
 use Rattle.optimize.specs.declared.walk.Walk.{Walk}
-use Rattle.optimize.specs.declared.result.Kept.{Kept}
-use Rattle.optimize.specs.declared.result.Sizes.{Sizes}
 
 -- section 1 of the call
 abbrev given : List ℕ
@@ -38,16 +37,10 @@ scratch x = (2 ∷ 1 ∷ 2 ∷ 1 ∷ 6 ∷ x ∷ 4 ∷ x ∷ []) ++ replicate 10
 abbrev walk : Walk
 walk = record { made = 1; taken = 1; used = 0; asked = 0; looked = 0; passed = 0 }
 
-abbrev kept_none : Kept
-kept_none = record { sequentials = 0; initial = 0; later = 0 }
-
-abbrev sizes : Sizes
-sizes = record { sequentials = 0; initial = 1; later = 0 }
-
 abbrev model : Model
 model = record { table = table_of given; dump = λ k. false; sequentials = []; initial = 3 ∷ []; later = []; inputs = 12 ∷ []; replies = [] }
 
-pub example-words : (x : ℕ) → flatten (result_words model (folded_in [] [] given (12 ∷ []) [] (result x) (scratch x) walk kept_none sizes 0))
+pub example-words : (x : ℕ) → flatten (result_words model (folded_in [] [] given (12 ∷ []) [] (result x) (scratch x) walk [] [] [] 0))
     ≡ 4 ∷ 19 ∷ 2 ∷ 0 ∷ 0 ∷ 0 ∷ 1 ∷ 1 ∷ 2 ∷ 12 ∷ 0 ∷ 0 ∷ 0 ∷ 12 ∷ 1 ∷ 6 ∷ 1 ∷ 0 ∷ 0 ∷ 22 ∷ 1 ∷ 4 ∷ 0 ∷ 0 ∷ 0
     ∷ 3 ∷ 1 ∷ 0 ∷ 1 ∷ 1 ∷ 2 ∷ 12
     ∷ 2 ∷ 0 ∷ 6 ∷ 2 ∷ 4
@@ -63,19 +56,19 @@ known x (suc (suc zero)) h = refl
 known x (suc (suc (suc zero))) h = refl
 known x (suc (suc (suc (suc v)))) h = let o : ⊥ = omega arith in absurd o
 
-pub example-finished : (x : ℕ) → Finished given (12 ∷ []) (result x) (scratch x) walk kept_none sizes
+abbrev none_kept : Lists
+none_kept = record { sequentials = record { ref_ptr = (0, 0); now = [] }; initial = record { ref_ptr = (0, 0); now = [] }; later = record { ref_ptr = (0, 0); now = [] } }
+
+pub example-finished : (x : ℕ) → Finished given (12 ∷ []) (result x) (scratch x) walk none_kept
 example-finished x =
     record {
       counted = lit< tt;
       few = lit≤ tt;
+      least = lit≤ tt;
       room = lit≤ tt;
       scratch = lit≤ tt;
       made = lit≤ tt;
-      asked = lit≤ tt;
       taken = lit≤ tt;
-      sequentials = lit≤ tt;
-      initial = lit≤ tt;
-      later = lit≤ tt;
       known = known x;
     }
 

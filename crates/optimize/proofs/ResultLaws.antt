@@ -1,5 +1,5 @@
 -- The nine sections of the rules' result, for the fold that lies in the buffers, are the words that the writers put behind one another.
--- Section by section: rows and constants stand in place, since a known kind's code is the word read; the others are parts of scratch and of the inputs.
+-- Section by section: rows and constants stand in place, since a known kind's code is the word read; the others are lists that are lent, or parts of scratch and of the inputs.
 --     sections_are    the nine sections as words of the buffers        handed_back    they and zeros after them are handed back
 -- Assumes nothing.
 use Prim.Native.Nat.{ℕ, zero, suc, ◌+◌, ◌-◌, ◌*◌, ◌<◌, ◌≤◌}
@@ -8,7 +8,7 @@ use mathlib.Core.List.{List, [], ◌∷◌, ◌++◌, append_assoc, append-nil, 
 use native.Mathlib.Nat.{add-zero, zero-add, mul-zero, mul-suc}
 use native.Mathlib.Omega.{arith}
 use lib.ListN.{length, get_or, take, drop, replicate, length-drop}
-use lib.Seq.{take-suc, take-add, take_all, drop-drop, get_or-drop, length-take-le}
+use lib.Seq.{take-suc, take-add, drop-drop, get_or-drop, length-take-le}
 use Rattle.rules.specs.Lists.{sum}
 use Rattle.rules.specs.Table.{kind_of, kind_code, row_width}
 use Rattle.rules.specs.Model.{Model}
@@ -20,10 +20,11 @@ use Rattle.optimize.specs.Bounds.{count_of, constants_at, rows_end}
 use Rattle.rules.specs.Sections.{word_of}
 use Rattle.optimize.specs.View.{firsts, rows_of, mark_of, question_of, view}
 use Rattle.optimize.specs.Lists.{entries_of}
-use Rattle.optimize.specs.ResultView.{lists_at, Finished, folded_in, ModelOf, Wrote, kept_words, rest_words, Handed}
+use Rattle.optimize.specs.ResultView.{Finished, folded_in, ModelOf, Wrote, front_words, pair_words, kept_words, rest_words, Handed}
+use Rattle.optimize.specs.Clauses.{Writes}
+use Rattle.optimize.specs.declared.result.ResultWords.{ResultWords}
+use Rattle.optimize.specs.declared.lists.Lists.{Lists}
 use Rattle.optimize.specs.declared.walk.Walk.{Walk}
-use Rattle.optimize.specs.declared.result.Kept.{Kept}
-use Rattle.optimize.specs.declared.result.Sizes.{Sizes}
 use Rattle.optimize.proofs.Views.{firsts-length, row_below, row-coded, row_made}
 
 -- ---- parts of a list
@@ -34,9 +35,6 @@ words-at zero a l h = refl
 words-at (suc c) a l h =
     take-suc (drop a l) c 0 (omega (arith, length-drop a l))
     ∙ ap₂ (λ x y. x ++ (y ∷ [])) (words-at c a l (omega arith)) (get_or-drop a l c 0)
-
-part_length : (l : List ℕ) (a c : ℕ) → a + c ≤ length l → length (entries_of l a c) ≡ c
-part_length l a c h = length-take-le c (drop a l) (omega (arith, length-drop a l))
 
 -- a part of p more words
 part-more : (l : List ℕ) (a p c : ℕ) → entries_of l a (p * suc c) ≡ entries_of l a (p * c) ++ entries_of l (a + p * c) p
@@ -98,20 +96,6 @@ questions_words (suc c) n S h =
 same : {x y : List ℕ} {xs ys : List (List ℕ)} → x ≡ y → xs ≡ ys → x ∷ xs ≡ y ∷ ys
 same e f = ap₂ (λ a b. a ∷ b) e f
 
-listed-part : (l : List ℕ) (a c : ℕ) → a + c ≤ length l → listed (entries_of l a c) ≡ c ∷ entries_of l a c
-listed-part l a c h = ap (λ i. i ∷ entries_of l a c) (part_length l a c h)
-
-listed-left : (l : List ℕ) (t : ℕ) → listed (drop t l) ≡ (length l - t) ∷ entries_of l t (length l - t)
-listed-left l t = ap₂ (λ i x. i ∷ x) (length-drop t l) (sym (take_all (length l - t) (drop t l) (omega (arith, length-drop t l))))
-
--- rows and constants, each after its count
-abbrev pub front_words : ℕ → ℕ → List ℕ → List ℕ
-front_words n made R = (n ∷ entries_of R 1 (row_width * n)) ++ ((2 + made) ∷ entries_of R (constants_at n) (2 * (2 + made)))
-
--- replacements after their count
-abbrev pub pair_words : ℕ → List ℕ → List ℕ
-pair_words n S = sum n (λ k. is_replaced (mark_of n S k)) ∷ gather n 0 (λ k. mark_words k (mark_of n S k))
-
 nine : (a b c d e f g h i : List ℕ) → flatten (a ∷ b ∷ c ∷ d ∷ e ∷ f ∷ g ∷ h ∷ i ∷ []) ≡ (a ++ b) ++ (c ++ ((d ++ (e ++ f)) ++ (g ++ (h ++ i))))
 unfolding flatten
 nine a b c d e f g h i = simp (append_assoc, append-nil)
@@ -123,16 +107,13 @@ handed R Q P ws r s w e =
     let f : length Q - r ≡ length R - length ws = omega arith in
     record { words = e ∙ ap₂ (λ x i. x ++ replicate i 0) w.front f; count = c }
 
-module _ (h : List Held) (d g inputs replies R S : List ℕ) (w : Walk) (k : Kept) (z : Sizes) (verdict : ℕ) (m : Model)
-    (fine : Finished g inputs R S w k z) (model : ModelOf g inputs replies m) (used : w.used ≤ length replies) where
+module _ (h : List Held) (d g inputs replies R S : List ℕ) (w : Walk) (kept : Lists) (verdict : ℕ) (m : Model)
+    (fine : Finished g inputs R S w kept) (model : ModelOf g inputs replies m) (used : w.used ≤ length replies) where
   abbrev n : ℕ
   n = count_of g
 
-  abbrev lists : ℕ
-  lists = lists_at n (z.initial + z.later)
-
   abbrev folded : Folded
-  folded = folded_in h d g inputs replies R S w k z verdict
+  folded = folded_in h d g inputs replies R S w kept.sequentials.now kept.initial.now kept.later.now verdict
 
   tally_words : tally_of m folded ≡ w.taken ∷ w.used ∷ w.looked ∷ w.passed ∷ verdict ∷ []
   unfolding folded_in view
@@ -144,39 +125,41 @@ module _ (h : List Held) (d g inputs replies R S : List ℕ) (w : Walk) (k : Kep
   rows-section : length m.table ∷ gather (length m.table) 0 (λ j. node_words (rows_of n w.made R j)) ≡ n ∷ entries_of R 1 (row_width * n)
   rows-section =
       ap (λ i. i ∷ gather i 0 (λ j. node_words (rows_of n w.made R j))) model.nodes
-      ∙ ap (λ x. n ∷ x) (rows_words n w.made R (omega (arith, fine.room)) fine.known)
+      ∙ ap (λ x. n ∷ x) (rows_words n w.made R (omega (arith, fine.least)) fine.known)
 
   consts_section : (2 + w.made) ∷ gather (2 + w.made) (length m.table) (λ j. const_words (rows_of n w.made R j)) ≡ (2 + w.made) ∷ entries_of R (constants_at n) (2 * (2 + w.made))
   consts_section =
       ap (λ i. (2 + w.made) ∷ gather (2 + w.made) i (λ j. const_words (rows_of n w.made R j))) model.nodes
-      ∙ ap (λ x. (2 + w.made) ∷ x) (consts_words n w.made R (omega (arith, fine.room, fine.made)))
+      ∙ ap (λ x. (2 + w.made) ∷ x) (consts_words n w.made R (omega (arith, fine.least, fine.made)))
 
   pairs-section : sum (length m.table) (λ j. is_replaced (mark_of n S j)) ∷ gather (length m.table) 0 (λ j. mark_words j (mark_of n S j)) ≡ pair_words n S
   pairs-section = ap (λ i. sum i (λ j. is_replaced (mark_of n S j)) ∷ gather i 0 (λ j. mark_words j (mark_of n S j))) model.nodes
 
-  questions_section : length (firsts w.asked (question_of n S)) ∷ question_words (firsts w.asked (question_of n S)) ≡ w.asked ∷ entries_of S (n + n) (4 * w.asked)
+  questions_section : length (firsts w.asked (question_of n S)) ∷ question_words (firsts w.asked (question_of n S)) ≡ w.asked ∷ entries_of S (2 * n) (4 * w.asked)
   questions_section =
-      let e : 2 * n ≡ n + n = omega arith in
-      ap₂ (λ i x. i ∷ x) (firsts-length w.asked (question_of n S))
-      (questions_words w.asked n S (omega (arith, fine.scratch, fine.asked)) ∙ ap (λ i. entries_of S i (4 * w.asked)) e)
+      ap₂ (λ i x. i ∷ x) (firsts-length w.asked (question_of n S)) (questions_words w.asked n S fine.scratch)
 
-  pub sections_are : flatten (result_words m folded) ≡ front_words n w.made R ++ (pair_words n S ++ (kept_words S lists k z ++ rest_words inputs S n w verdict))
+  pub sections_are : flatten (result_words m folded) ≡ front_words n w.made R ++ (pair_words n S ++ (kept_words kept ++ rest_words inputs (entries_of S (2 * n) (4 * w.asked)) w verdict))
   unfolding result_words folded_in view
   sections_are =
       ap flatten
       (same rows-section
       (same consts_section
       (same pairs-section
-      (same (listed-part S lists k.sequentials (omega (arith, fine.scratch, fine.sequentials)))
-      (same (listed-part S (lists + z.sequentials) k.initial (omega (arith, fine.scratch, fine.initial)))
-      (same (listed-part S (lists + z.sequentials + z.initial) k.later (omega (arith, fine.scratch, fine.later)))
-      (same (listed-left inputs w.taken)
+      (same refl
+      (same refl
+      (same refl
+      (same refl
       (same questions_section
       (same (ap listed tally_words)
       refl)))))))))
       ∙ nine _ _ _ _ _ _ _ _ _
 
   -- what stands after the last section and zeros behind it
-  pub handed_back : (Q P : List ℕ) (r : ℕ) → length Q ≡ length R → Wrote R Q 0 r (front_words n w.made R ++ (pair_words n S ++ (kept_words S lists k z ++ rest_words inputs S n w verdict)))
-      → P ≡ take r Q ++ replicate (length Q - r) 0 → Handed (flatten (result_words m folded)) (length R) P r
-  handed_back Q P r s e c = rw sections_are (handed R Q P _ r s e c)
+  pub handed_back : (u v : ResultWords) (Q P asks : List ℕ) → u.at ≡ 0 → u.res.now ≡ R → asks ≡ entries_of S (2 * n) (4 * w.asked)
+      → Writes u v (front_words n w.made R ++ (pair_words n S ++ (kept_words kept ++ rest_words inputs asks w verdict)))
+      → Q ≡ v.res.now → (v.at ≤ length Q → P ≡ take v.at Q ++ replicate (length Q - v.at) 0) → Handed (flatten (result_words m folded)) (length R) P v.at
+  handed_back u v Q P asks z b q e i c =
+      let s : length v.res.now ≡ length R = e.size ∙ ap length b in
+      let f : Wrote R v.res.now 0 v.at (front_words n w.made R ++ (pair_words n S ++ (kept_words kept ++ rest_words inputs (entries_of S (2 * n) (4 * w.asked)) w verdict))) = rw (q, z, b) at e.wrote in
+      rw sections_are (handed R v.res.now P _ v.at s f (rw i at c (omega (arith, ap length i, e.wrote.fits))))

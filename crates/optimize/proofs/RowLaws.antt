@@ -11,7 +11,12 @@ use borrow.Author.Tests.{eq-eqb, ne_eqb}
 use Rattle.rules.specs.Table.{Const, Write, Node, kind_of, kind_code, is}
 use Rattle.rules.specs.Fold.{const_of}
 use Rattle.rules.proofs.Base.{inside-or-past}
-use Rattle.tables.proofs.NodeLaws.{is_code}
+use Rattle.tables.proofs.NodeLaws.{is_code, names-kind, names-none, unknown-kind}
+use Rattle.std.specs.Prelude.{Result, Ok, Err}
+use Rattle.std.specs.Result.{result_unwrap_or}
+use Rattle.tables.specs.declared.node.NodeKind.{NodeKind}
+use Rattle.tables.specs.declared.node.UnknownKind.{UnknownKind}
+use Rattle.tables.specs.NodeAnswers.{coded_kind_of, kind_in, kind_is}
 use Rattle.rules.specs.Sections.{word_of}
 use Rattle.optimize.specs.Bounds.{constants_at}
 use Rattle.optimize.specs.View.{rows_of}
@@ -58,3 +63,9 @@ module _ (n made : ℕ) (R : List ℕ) (k : ℕ) where
   pub no-write-past : n ≤ k → is Write (rows_of n made R k) ≡ false
   no-write-past l =
       inside-or-past (is Write (rows_of n made R k) ≡ false) (k - n) (2 + made) (λ h. ap (is Write) (row_made n made R k l h)) (λ h. ap (is Write) (row-past n made R k l h))
+
+-- ---- kinds
+-- a code's kind, and Input where it names none
+pub kind-or : (code : ℕ) (r : Result NodeKind UnknownKind) → coded_kind_of r ≡ kind_in code → kind_is (result_unwrap_or r NodeKind.Input) ≡ kind_of code
+kind-or code (Ok k) e = (names-kind code (kind_is k) e).1
+kind-or code (Err z) e = sym (unknown-kind code (names-none code e))

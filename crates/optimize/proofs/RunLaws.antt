@@ -1,26 +1,15 @@
--- Joining the parts of a fold: the rules' fold by its outcomes, and the fold that lies in the buffers at the end.
+-- The rules' fold, outcome by outcome.
 -- Assumes nothing.
-use Prim.Native.Nat.{ℕ, ◌+◌, ◌*◌, ◌<◌, ◌≤◌}
-use mathlib.Core.Path.{◌≡◌, sym, ap, ◌∙◌}
+use Prim.Native.Nat.{ℕ}
+use mathlib.Core.Path.{◌≡◌, refl, sym, ap, ◌∙◌}
 use mathlib.Core.Bool.{true, false}
 use mathlib.Core.List.{List, ◌++◌}
-use native.Mathlib.Omega.{arith}
-use lib.ListN.{length, get_or, take}
-use lib.Seq.{ext_get_or}
 use Rattle.rules.specs.Refusal as rules
 use Rattle.rules.specs.Refusal.{Out, refused, done, ◌>>=◌}
 use Rattle.rules.specs.Model.{Model, Mode}
-use Rattle.rules.specs.Walk.{St, Held, start}
-use Rattle.rules.specs.Whole.{Bads, bads, ways_of, judge_sequentials, visit_all, fold_bads, fold}
-use Rattle.optimize.specs.declared.walk.Walk.{Walk}
-use Rattle.optimize.specs.declared.result.Kept.{Kept}
-use Rattle.optimize.specs.declared.result.Sizes.{Sizes}
-use Rattle.optimize.specs.Bounds.{count_of}
-use Rattle.optimize.specs.View.{view}
-use Rattle.optimize.specs.ResultView.{lists_at, folded_in}
-use Rattle.optimize.specs.Lists.{entries_of}
-use Rattle.optimize.proofs.Entries.{entries-length, entry_at}
-use Rattle.optimize.proofs.Begun.{view-front}
+use Rattle.rules.specs.Walk.{St, start}
+use Rattle.rules.specs.Whole.{Bads, bads, Folded, last_question, ways_of, judge_sequentials, visit_all, fold_bads, fold}
+use Rattle.optimize.specs.LastQuestion.{bare_folded, forgotten}
 
 -- ---- the rules' fold, outcome by outcome
 module _ (m : Model) (how : Mode) where
@@ -52,18 +41,29 @@ module _ (m : Model) (how : Mode) where
     pub visits-done : (σ : St) → visit_all m.table (ways_of m how) σ₀ seqs ≡ done σ → fold m how ≡ fold_bads m how how.one_query σ seqs
     visits-done σ d = whole-fold ∙ ap (λ (o : Out St). o >>= λ σ. fold_bads m how how.one_query σ seqs) d
 
--- ---- lists that stay
-pub entries-still : (S T : List ℕ) (from count : ℕ) → from + count ≤ length S → from + count ≤ length T → ((i : ℕ) → from ≤ i → i < from + count → get_or T i 0 ≡ get_or S i 0) → entries_of T from count ≡ entries_of S from count
-entries-still S T from count a b h =
-    ext_get_or 0 (entries_of T from count) (entries_of S from count)
-    (entries-length T from count b ∙ sym (entries-length S from count a))
-    (λ i l.
-    let c : i < count = omega (arith, entries-length T from count b) in
-    entry_at T from count b i c ∙ h (from + i) (omega arith) (omega arith) ∙ sym (entry_at S from count a i c))
+-- ---- the same under one-query, with the last question
+after-last : (o : Out (St × ℕ)) (seqs initial later dropped : List ℕ)
+    → ((o >>= λ p. done (record { state = p.0; sequentials = seqs; initial = initial; later = later; dropped = dropped; verdict = p.1 })) >>= λ f. done (bare_folded f))
+    ≡ (forgotten o >>= λ p. done (record { state = p.0; sequentials = seqs; initial = initial; later = later; dropped = dropped; verdict = p.1 }))
+after-last (refused z) seqs initial later dropped = refl
+after-last (done p) seqs initial later dropped = refl
 
--- what a fold leaves is the fold that lies in the buffers
-pub folded-is : (h : List Held) (d g ins reps R S : List ℕ) (w : Walk) (k : Kept) (z : Sizes) (verdict at : ℕ) (seqs initial later : List ℕ) → at ≡ lists_at (count_of g) (z.initial + z.later) → 2 * count_of g + 4 * w.asked ≤ at
-    → seqs ≡ entries_of S at k.sequentials → initial ≡ entries_of S (at + z.sequentials) k.initial → later ≡ entries_of S (at + z.sequentials + z.initial) k.later
-    → record { state = view h g ins reps R (take at S) w; sequentials = seqs; initial = initial; later = later; dropped = d; verdict = verdict } ≡ folded_in h d g ins reps R S w k z verdict
-unfolding folded_in
-folded-is h d g ins reps R S w k z verdict at seqs initial later e asks a b c = rw (view-front h g ins reps R S w at asks, a, b, c, e)
+module _ (m : Model) (how : Mode) (σ : St) (seqs : List ℕ) where
+  abbrev after_bads : Bads → Out Folded
+  after_bads i = last_question m how i.after i.stay >>= λ p. done (record { state = p.0; sequentials = seqs; initial = i.stay; later = m.later; dropped = i.dropped; verdict = p.1 })
+
+  once_is : fold_bads m how true σ seqs ≡ (bads m how false true 3 σ m.initial >>= after_bads)
+  unfolding fold_bads
+  once_is = refl
+
+  abbrev bared : Out Folded → Out Folded
+  bared o = o >>= λ f. done (bare_folded f)
+
+  pub once-refused : (z : rules.Refusal) → bads m how false true 3 σ m.initial ≡ refused z → refused z ≡ bared (fold_bads m how true σ seqs)
+  once-refused z e = sym (ap bared (once_is ∙ ap (λ (o : Out Bads). o >>= after_bads) e))
+
+  pub once-last : (i : Bads) (o : Out (St × ℕ)) → bads m how false true 3 σ m.initial ≡ done i → o ≡ forgotten (last_question m how i.after i.stay)
+      → (o >>= λ p. done (record { state = p.0; sequentials = seqs; initial = i.stay; later = m.later; dropped = i.dropped; verdict = p.1 })) ≡ bared (fold_bads m how true σ seqs)
+  once-last i o e d =
+      ap (λ (o : Out (St × ℕ)). o >>= λ p. done (record { state = p.0; sequentials = seqs; initial = i.stay; later = m.later; dropped = i.dropped; verdict = p.1 })) d
+      ∙ sym (ap bared (once_is ∙ ap (λ (o : Out Bads). o >>= after_bads) e) ∙ after-last (last_question m how i.after i.stay) seqs i.stay m.later i.dropped)

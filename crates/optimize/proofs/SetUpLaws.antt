@@ -3,12 +3,11 @@
 -- Assumes nothing.
 use Prim.Native.Nat.{ℕ, zero, suc, ◌+◌, ◌-◌, ◌*◌, ◌<◌, ◌≤◌}
 use mathlib.Core.Path.{◌≡◌, sym, ap, ap₂, ◌∙◌, fun_ext}
-use mathlib.Core.List.{List, [], ◌∷◌, ◌++◌, append_assoc}
-use native.Mathlib.Nat.{add-zero}
+use mathlib.Core.List.{List, [], ◌∷◌, ◌++◌}
 use native.Mathlib.Omega.{arith}
 use borrow.Author.Tests.{lt-ltb, le-ltb}
-use lib.ListN.{length, get_or, take, drop, set, replicate, length-take, length-replicate, get_or-replicate, get_or-append}
-use lib.Seq.{get_or-append-add, get_or-take, length-take-le, paste, length-paste, sets, sets-eq}
+use lib.ListN.{length, get_or, take, drop, replicate, length-append, length-drop, length-replicate, get_or-replicate, get_or-append}
+use lib.Seq.{get_or-append-add, get_or-take, length-take-le}
 use Rattle.rules.specs.Table.{Node, constant, unknown, row_width}
 use Rattle.rules.specs.Walk.{Mark, fresh, start_rows, start}
 use Rattle.rules.proofs.Base.{inside-or-past}
@@ -79,59 +78,45 @@ view-start g R r U inputs replies s h =
     ap₂ (λ (rows : ℕ → Node) (mark : ℕ → Mark). record { rows = rows; mark = mark; made = 0; inputs = inputs; replies = replies; asked = []; held = []; looked = 0; passed = 0 })
     (rows_start g R s) (marks-start (count_of g) r U h)
 
--- ---- the stores
-stored-before : (l : List ℕ) (p : ℕ) (vs : List ℕ) → p + length vs ≤ length l → (i : ℕ) → i < p → get_or (sets l p vs) i 0 ≡ get_or l i 0
-stored-before l p vs h i b =
-    ap (λ x. get_or x i 0) (sets-eq vs l p h) ∙ ap (λ x. get_or x i 0) (append_assoc (take p l) vs (drop (p + length vs) l))
-    ∙ get_or-append (take p l) (vs ++ drop (p + length vs) l) 0 i (omega (arith, length-take p l)) ∙ get_or-take p l i 0 b
+-- ---- what was copied
+-- words put behind the first p of a list
+before-put : (l ws : List ℕ) (p i : ℕ) → p ≤ length l → i < p → get_or (take p l ++ ws) i 0 ≡ get_or l i 0
+before-put l ws p i h b = get_or-append (take p l) ws 0 i (omega (arith, length-take-le p l h)) ∙ get_or-take p l i 0 b
 
-stored_at : (l : List ℕ) (p : ℕ) (vs : List ℕ) → p + length vs ≤ length l → (j : ℕ) → j < length vs → get_or (sets l p vs) (p + j) 0 ≡ get_or vs j 0
-stored_at l p vs h j b =
-    let e : p + j ≡ length (take p l) + j = omega (arith, length-take p l) in
-    ap (λ x. get_or x (p + j) 0) (sets-eq vs l p h ∙ append_assoc (take p l) vs (drop (p + length vs) l))
-    ∙ ap (λ i. get_or (take p l ++ (vs ++ drop (p + length vs) l)) i 0) e
-    ∙ get_or-append-add (take p l) (vs ++ drop (p + length vs) l) j 0
-    ∙ get_or-append vs (drop (p + length vs) l) 0 j b
+put_at : (l vs ws : List ℕ) (p i j : ℕ) → p ≤ length l → i ≡ p + j → j < length vs → get_or (take p l ++ (vs ++ ws)) i 0 ≡ get_or vs j 0
+put_at l vs ws p i j h e b =
+    let f : i ≡ length (take p l) + j = omega (arith, length-take-le p l h) in
+    ap (λ i. get_or (take p l ++ (vs ++ ws)) i 0) f ∙ get_or-append-add (take p l) (vs ++ ws) j 0 ∙ get_or-append vs ws 0 j b
 
--- the shared false and true from the place p on
-abbrev pub stores : ℕ → List ℕ → List ℕ
-stores p l = set (set (set (set l p 1) (p + 1) 0) (p + 2) 1) (p + 3) 1
-
-module _ (g R : List ℕ) (known : KindsKnown g) (fits : rows_end (count_of g) ≤ length g) (room : row_width + row_width * count_of g ≤ length R) where
+-- the given rows, then the room for the count of the constants, then the shared false and true
+module _ (g R ws : List ℕ) (known : KindsKnown g) (fits : rows_end (count_of g) ≤ length g) (room : row_width + row_width * count_of g ≤ length R) where
   abbrev copied : List ℕ
-  copied = paste R 0 (drop 0 g) (rows_end (count_of g))
+  copied = take (rows_end (count_of g)) g ++ drop (rows_end (count_of g)) R
 
   copied_at : (i : ℕ) → i < rows_end (count_of g) → get_or copied i 0 ≡ get_or g i 0
-  copied_at i h =
-      get_or-append (take (rows_end (count_of g)) g) (drop (0 + (rows_end (count_of g))) R) 0 i (omega (arith, length-take (rows_end (count_of g)) g))
-      ∙ get_or-take (rows_end (count_of g)) g i 0 h
+  copied_at i h = before-put g (drop (rows_end (count_of g)) R) (rows_end (count_of g)) i fits h
 
   copied-length : length copied ≡ length R
-  copied-length = length-paste R 0 (drop 0 g) (rows_end (count_of g)) (omega arith) fits
+  copied-length = simp (length-append, length-drop) (omega (arith, length-take-le (rows_end (count_of g)) g fits))
 
-  stored : SetUp g (stores (constants_at (count_of g)) copied)
+  stored : SetUp g (take (rows_end (count_of g) + 1) copied ++ ((1 ∷ 0 ∷ 1 ∷ 1 ∷ []) ++ ws))
   stored =
-      let p : ℕ = constants_at (count_of g) in
-      let e₁ : p + 1 ≡ suc p = omega arith in
-      let e₂ : p + 2 ≡ suc (suc p) = omega arith in
-      let e₃ : p + 3 ≡ suc (suc (suc p)) = omega arith in
+      let p : ℕ = rows_end (count_of g) + 1 in
       let vs : List ℕ = 1 ∷ 0 ∷ 1 ∷ 1 ∷ [] in
-      let h : p + length vs ≤ length copied = omega (arith, copied-length) in
-      let same : stores p copied ≡ sets copied p vs = rw (e₁, e₂, e₃) in
-      rw same
-      (record {
-        rows = λ i l. stored-before copied p vs h i (omega arith) ∙ copied_at i l;
+      let h : p ≤ length copied = omega (arith, copied-length) in
+      record {
         known = known;
-        false_sort = ap (λ k. get_or (sets copied p vs) k 0) (sym (add-zero p)) ∙ stored_at copied p vs h 0 (omega arith);
-        false_number = stored_at copied p vs h 1 (omega arith);
-        true_sort = stored_at copied p vs h 2 (omega arith);
-        true_number = stored_at copied p vs h 3 (omega arith);
-      })
+        rows = λ i l. before-put copied (vs ++ ws) p i h (omega arith) ∙ copied_at i l;
+        false_sort = put_at copied vs ws p _ 0 h (omega arith) (omega arith);
+        false_number = put_at copied vs ws p _ 1 h (omega arith) (omega arith);
+        true_sort = put_at copied vs ws p _ 2 h (omega arith) (omega arith);
+        true_number = put_at copied vs ws p _ 3 h (omega arith) (omega arith);
+      }
 
--- P is the part of scratch that was cleared
-pub set_up_left : (g R Q S P : List ℕ) (k : ℕ) → Ready g (length R) (length S) → Q ≡ paste R 0 (drop 0 g) (rows_end (count_of g)) → k ≡ count_of g → P ≡ replicate (length (take k S)) 0
-    → (inputs replies : List ℕ) → view [] g inputs replies (stores (constants_at (count_of g)) Q) (P ++ drop k S) untouched ≡ start (table_of g) inputs replies
-set_up_left g R Q S P k r q e t inputs replies =
-    let l : length (take k S) ≡ k = length-take-le k S (omega arith) in
-    rw (q, t)
-    (view-start g (stores (constants_at (count_of g)) (paste R 0 (drop 0 g) (rows_end (count_of g)))) (length (take k S)) (drop k S) inputs replies (stored g R r.known r.whole (omega arith)) (omega arith))
+-- A, B and C are what was copied and cleared
+pub set_up_left : (g R S A B C ws : List ℕ) (n : ℕ) → Ready g (length R) (length S) → n ≡ count_of g → A ≡ take (rows_end n) g → B ≡ 1 ∷ 0 ∷ 1 ∷ 1 ∷ [] → C ≡ replicate (length (take n S)) 0
+    → (inputs replies : List ℕ) → view [] g inputs replies (take (rows_end n + 1) (A ++ drop (rows_end n) R) ++ (B ++ ws)) (C ++ drop n S) untouched ≡ start (table_of g) inputs replies
+set_up_left g R S A B C ws n r e a b c inputs replies =
+    let l : length (take (count_of g) S) ≡ count_of g = length-take-le (count_of g) S (omega arith) in
+    rw (a, b, c, e)
+    (view-start g (take (rows_end (count_of g) + 1) (copied g R ws r.known r.whole (omega arith)) ++ ((1 ∷ 0 ∷ 1 ∷ 1 ∷ []) ++ ws)) (length (take (count_of g) S)) (drop (count_of g) S) inputs replies (stored g R ws r.known r.whole (omega arith)) (omega arith))

@@ -5,8 +5,8 @@ use mathlib.Core.Path.{◌≡◌, ap, ◌∙◌}
 use mathlib.Core.List.{List}
 use native.Mathlib.Numerals.{add-one}
 use native.Mathlib.Omega.{arith}
-use lib.ListN.{length, get_or, drop, set, length-set}
-use lib.Seq.{get_or-set_same, get_or-set_other, drop-set-lt}
+use lib.ListN.{length, get_or, set, length-set}
+use lib.Seq.{get_or-set_same, get_or-set_other}
 use Rattle.rules.specs.Table.{kind_of, with, row_width}
 use Rattle.rules.specs.Walk.{Held, set_row, set_mark, add_const}
 use Rattle.optimize.specs.declared.walk.Walk.{Walk}
@@ -70,7 +70,3 @@ module _ (h : List Held) (g inputs replies R S : List ℕ) (w : Walk) where
       let s5 : word_of Q k 5 ≡ word_of g k 5 = other (e + 5) (λ q. omega arith) (λ q. omega arith) (λ q. omega arith) ∙ kept.name in
       let here : row_of Q k ≡ with (node_of g k) a b c = cc in
       rw (rows-put (count_of g) w.made R Q k (with (node_of g k) a b c) l (λ i d. other i (λ q. d (omega arith) (omega arith)) (λ q. d (omega arith) (omega arith)) (λ q. d (omega arith) (omega arith))) here)
-
--- two stores below a place leave what stands from there on
-pub two-sets : (n : ℕ) (S : List ℕ) (i j x y : ℕ) → i < n → j < n → drop n (set (set S i x) j y) ≡ drop n S
-two-sets n S i j x y a b = drop-set-lt n (set S i x) j y b ∙ drop-set-lt n S i x a

@@ -1,7 +1,7 @@
 -- Words written behind the words before a place: nothing, a run of stores, a section copied, and one after the other.
---     wrote_none, wrote_stores, wrote_section, wrote_after, wrote_counts, wrote_tally, wrote_then        what is written
+--     wrote_none, wrote_stores, wrote_section, wrote_counts, wrote_then        what is written        writes_by, writes_then   and in which buffer
 --     count_low, count-high, pair_none, pair_put             what a mark word below 2, and one from 2 on, adds
---     wrote_first, wrote_more                                a run of words, one by one
+--     writes_first, writes_more                              a run of words, one by one
 -- Assumes nothing.
 use Prim.Native.Nat.{ℕ, zero, suc, ◌+◌, ◌*◌, ◌<◌, ◌≤◌}
 use mathlib.Core.Path.{◌≡◌, refl, sym, ap, ap₂, ◌∙◌}
@@ -10,19 +10,25 @@ use native.Mathlib.Numerals.{add-one}
 use native.Mathlib.Nat.{zero-add}
 use native.Mathlib.Omega.{arith}
 use borrow.Author.Tests.{lt-ltb, ne_eqb}
-use lib.Dec.{eqb}
-use mathlib.Core.Bool.{true, false}
-use lib.ListN.{length, get_or, take, drop, set, length-append, length-set, length-drop}
-use lib.Seq.{take-suc-set, take-add, take-set-le, drop-cons, drop-set-lt, get_or-set_same, take_at, length-take-le, sets, sets-eq, length-sets, paste, take-paste, length-paste}
+use lib.Dec.{eqb, leb}
+use mathlib.Core.Logic.{inl, inr}
+use Rattle.std.specs.List.{count_by}
+use Rattle.std.proofs.lemmas.Bool.Decides.{leb_tells}
+use Rattle.std.proofs.lemmas.List.Sums.{count_by_more_yes, count_by_more_no}
+use mathlib.Core.Bool.{Bool, true, false}
+use lib.ListN.{length, get_or, take, drop, set, length-append, length-set}
+use lib.Seq.{take-suc-set, take-add, take-set-le, drop-cons, drop-set-lt, get_or-set_same, take_all, take_at, length-take-le, sets, sets-eq, length-sets, paste, take-paste, length-paste}
 use Rattle.rules.specs.Lists.{sum}
 use Rattle.rules.specs.Walk.{fresh, kept, replaced}
-use Rattle.rules.specs.Result.{gather, is_replaced, mark_words, listed}
+use Rattle.rules.specs.Result.{gather, is_replaced, mark_words}
 use Rattle.rules.proofs.Flat.{gather_snoc}
 use Rattle.rules.specs.Table.{row_width}
 use Rattle.optimize.specs.Bounds.{constants_at, room_of, rows_end}
 use Rattle.optimize.specs.View.{mark_by, mark_of}
 use Rattle.optimize.specs.Lists.{entries_of}
 use Rattle.optimize.specs.ResultView.{Wrote}
+use Rattle.optimize.specs.Clauses.{Writes}
+use Rattle.optimize.specs.declared.result.ResultWords.{ResultWords}
 
 pub wrote_none : (R : List ℕ) (at : ℕ) → at ≤ length R → Wrote R R at at []
 wrote_none R at h = record { front = sym (append-nil (take at R)); fits = h }
@@ -30,6 +36,27 @@ wrote_none R at h = record { front = sym (append-nil (take at R)); fits = h }
 pub wrote_then : (R Q P : List ℕ) (at r s : ℕ) (ws vs : List ℕ) → Wrote R Q at r ws → Wrote Q P r s vs → Wrote R P at s (ws ++ vs)
 wrote_then R Q P at r s ws vs a b =
     record { front = b.front ∙ ap (λ l. l ++ vs) a.front ∙ append_assoc (take at R) ws vs; fits = b.fits }
+
+-- into the words of a result
+module _ (u v : ResultWords) where
+  pub writes_by : (ws : List ℕ) → u.at ≤ length u.res.now → v.res.ghost_name ≡ u.res.ghost_name → length v.res.now ≡ length u.res.now
+      → Wrote u.res.now v.res.now u.at v.at ws → Writes u v ws
+  writes_by ws h same size w =
+      record {
+        same = same;
+        size = size;
+        place = omega (arith, length-take-le v.at v.res.now w.fits, ap length w.front, length-append (take u.at u.res.now) ws, length-take-le u.at u.res.now h);
+        wrote = w;
+      }
+
+  pub writes_then : (w : ResultWords) (ws vs : List ℕ) → Writes u v ws → Writes v w vs → Writes u w (ws ++ vs)
+  writes_then w ws vs a b =
+      record {
+        same = b.same ∙ a.same;
+        size = b.size ∙ a.size;
+        place = omega (arith, a.place, b.place, length-append ws vs);
+        wrote = wrote_then u.res.now v.res.now w.res.now u.at v.at w.at ws vs a.wrote b.wrote;
+      }
 
 pub wrote_stores : (R : List ℕ) (at : ℕ) (vs : List ℕ) → at + length vs ≤ length R → Wrote R (sets R at vs) at (at + length vs) vs
 wrote_stores R at vs h =
@@ -40,24 +67,24 @@ wrote_stores R at vs h =
       fits = omega (arith, length-sets R at vs);
     }
 
-pub wrote_section : (R Q source : List ℕ) (at count start words : ℕ) → start + words ≤ length source → at + 1 + words ≤ length R
-    → Q ≡ paste (set R at count) (at + 1) (drop start source) words → Wrote R Q at (at + 1 + words) (count ∷ entries_of source start words)
-wrote_section R Q source at count start words h l e =
-    let d : words ≤ length (drop start source) = omega (arith, length-drop start source) in
+pub wrote_section : (R Q : List ℕ) (at count : ℕ) (words : List ℕ) → at + 1 + length words ≤ length R
+    → Q ≡ paste (set R at count) (at + 1) words (length words) → Wrote R Q at (at + 1 + length words) (count ∷ words)
+wrote_section R Q at count words l e =
     let n : at + 1 ≤ length (set R at count) = omega (arith, length-set R at count) in
+    let h : length words ≤ length words = omega arith in
     let first : take (at + 1) (set R at count) ≡ take at R ++ (count ∷ []) = rw (add-one at) (take-suc-set R at count (omega arith)) in
     record {
       front =
-          ap (λ x. take (at + 1 + words) x) e ∙ take-paste (set R at count) (at + 1) (drop start source) words n d
-          ∙ ap (λ x. x ++ take words (drop start source)) first ∙ append_assoc (take at R) (count ∷ []) (take words (drop start source));
-      fits = omega (arith, ap length e, length-paste (set R at count) (at + 1) (drop start source) words (omega (arith, length-set R at count)) d, length-set R at count);
+          ap (λ x. take (at + 1 + length words) x) e ∙ take-paste (set R at count) (at + 1) words (length words) n h
+          ∙ ap₂ (λ x y. x ++ y) first (take_all (length words) words h) ∙ append_assoc (take at R) (count ∷ []) words;
+      fits = omega (arith, ap length e, length-paste (set R at count) (at + 1) words (length words) (omega (arith, length-set R at count)) h, length-set R at count);
     }
 
--- a count before what is written behind it
-pub wrote_after : (R Q : List ℕ) (at v r : ℕ) (ws : List ℕ) → at < length R → Wrote (set R at v) Q (at + 1) r ws → Wrote R Q at r (v ∷ ws)
-wrote_after R Q at v r ws h w =
-    let first : take (at + 1) (set R at v) ≡ take at R ++ (v ∷ []) = rw (add-one at) (take-suc-set R at v h) in
-    record { front = w.front ∙ ap (λ x. x ++ ws) first ∙ append_assoc (take at R) (v ∷ []) ws; fits = w.fits }
+pub section-size : (R Q : List ℕ) (at count : ℕ) (words : List ℕ) → at + 1 + length words ≤ length R
+    → Q ≡ paste (set R at count) (at + 1) words (length words) → length Q ≡ length R
+section-size R Q at count words l e =
+    let h : length words ≤ length words = omega arith in
+    omega (arith, ap length e, length-paste (set R at count) (at + 1) words (length words) (omega (arith, length-set R at count)) h, length-set R at count)
 
 -- two counts before words that stand in place: m of them, then p
 counts_front : (x v c m p : ℕ) (R : List ℕ) → m < length R
@@ -83,16 +110,6 @@ wrote_counts (x ∷ R) n made h l =
           ∙ ap (λ i. (n ∷ entries_of (x ∷ R) 1 (row_width * n)) ++ ((2 + made) ∷ entries_of (x ∷ R) i (2 * (2 + made)))) (sym e₃);
       fits = omega (arith, length-set (set (x ∷ R) 0 n) (rows_end n) (2 + made));
     }
-
-pub wrote_tally : (R : List ℕ) (at a b c d e : ℕ) → at + 6 ≤ length R
-    → Wrote R (set (set (set (set (set (set R at 5) (at + 1) a) (at + 2) b) (at + 3) c) (at + 4) d) (at + 5) e) at (at + 6) (listed (a ∷ b ∷ c ∷ d ∷ e ∷ []))
-wrote_tally R at a b c d e h =
-    let e₁ : at + 1 ≡ suc at = omega arith in
-    let e₂ : at + 2 ≡ suc (suc at) = omega arith in
-    let e₃ : at + 3 ≡ suc (suc (suc at)) = omega arith in
-    let e₄ : at + 4 ≡ suc (suc (suc (suc at))) = omega arith in
-    let e₅ : at + 5 ≡ suc (suc (suc (suc (suc at)))) = omega arith in
-    rw (e₁, e₂, e₃, e₄, e₅) (wrote_stores R at (5 ∷ a ∷ b ∷ c ∷ d ∷ e ∷ []) h)
 
 -- ---- marks
 module _ (n : ℕ) (S : List ℕ) (k : ℕ) (l : k < n) where
@@ -124,18 +141,36 @@ module _ (n : ℕ) (S : List ℕ) (k : ℕ) (l : k < n) where
   unfolding sum
   count-high h = rw (add-one k) (omega (arith, ap is_replaced (mark-high h)))
 
-  module _ (R : List ℕ) (at : ℕ) where
-    pub pair_none : get_or S k 0 < 2 → at ≤ length R → Wrote R R at at (mark_words k (mark_of n S k))
-    pair_none h f = rw (mark-low h).1 (wrote_none R at f)
+  pub pair_none : get_or S k 0 < 2 → mark_words k (mark_of n S k) ≡ []
+  pair_none h = (mark-low h).1
 
-    pub pair_put : 2 ≤ get_or S k 0 → at + 2 ≤ length R → Wrote R (set (set R at k) (at + 1) (get_or S (n + k) 0)) at (at + 2) (mark_words k (mark_of n S k))
-    pair_put h f = rw (mark-high h, add-one at) (wrote_stores R at (k ∷ get_or S (n + k) 0 ∷ []) f)
+  pub pair_put : 2 ≤ get_or S k 0 → mark_words k (mark_of n S k) ≡ k ∷ get_or S (n + k) 0 ∷ []
+  pair_put h = ap (mark_words k) (mark-high h)
+
+-- the marks from 2 on among the first c
+pub marks-counted : (n : ℕ) (S : List ℕ) (c : ℕ) → c ≤ n → n ≤ length S → count_by (λ x. leb 2 x) (take c S) ≡ sum c (λ k. is_replaced (mark_of n S k))
+unfolding sum
+marks-counted n S zero h l = refl
+marks-counted n S (suc c) h l =
+    let p : ℕ → Bool = λ x. leb 2 x in
+    let q : ℕ → ℕ = λ i. sum i (λ k. is_replaced (mark_of n S k)) in
+    let e : suc c ≡ c + 1 = sym (add-one c) in
+    let f = marks-counted n S c (omega arith) l in
+    ap (λ i. count_by p (take i S)) e
+    ∙ elim (leb_tells 2 (get_or S c 0)) [
+      | inl b ↦ count_by_more_yes p S c 0 (omega arith) b.0 ∙ ap (λ i. i + 1) f ∙ sym (count-high n S c (omega arith) b.1)
+      | inr b ↦ count_by_more_no p S c 0 (omega arith) b.0 ∙ f ∙ sym (count_low n S c (omega arith) b.1)
+    ]
+    ∙ ap q (sym e)
 
 -- ---- runs of words
-pub wrote_first : (R : List ℕ) (at : ℕ) (f : ℕ → List ℕ) → at ≤ length R → Wrote R R at at (gather 0 0 f)
-unfolding gather
-wrote_first R at f h = wrote_none R at h
+pub writes_still : (u : ResultWords) → u.at ≤ length u.res.now → Writes u u []
+writes_still u h = writes_by u u [] h refl refl (wrote_none u.res.now u.at h)
 
-pub wrote_more : (R Q P : List ℕ) (at r s c : ℕ) (f : ℕ → List ℕ) → Wrote R Q at r (gather c 0 f) → Wrote Q P r s (f c) → Wrote R P at s (gather (c + 1) 0 f)
-wrote_more R Q P at r s c f a b =
-    rw (add-one c, gather_snoc c 0 f, zero-add c) (wrote_then R Q P at r s (gather c 0 f) (f c) a b)
+pub writes_first : (u : ResultWords) (f : ℕ → List ℕ) → u.at ≤ length u.res.now → Writes u u (gather 0 0 f)
+unfolding gather
+writes_first u f h = writes_still u h
+
+pub writes_more : (u v w : ResultWords) (c : ℕ) (f : ℕ → List ℕ) → Writes u v (gather c 0 f) → Writes v w (f c) → Writes u w (gather (c + 1) 0 f)
+writes_more u v w c f a b =
+    rw (add-one c, gather_snoc c 0 f, zero-add c) (writes_then u v w (gather c 0 f) (f c) a b)

@@ -34,16 +34,9 @@ count_of g = get_or g 0 0
 abbrev pub Counted : List ℕ → Type 0
 Counted g = (0 < length g) × (count_of g ≤ most_nodes)
 
-abbrev pub CountedAt : List ℕ → ℕ → Type 0
-CountedAt g k = (0 < length g) × (count_of g ≤ most_nodes) × (k < count_of g)
-
 -- the result buffer has room for the rows, and for a constant made for each
 abbrev pub HasRoom : List ℕ → List ℕ → Type 0
 HasRoom g R = room_of (count_of g) ≤ length R
-
--- the same, and scratch has a mark and a replacement for each node
-abbrev pub HasBoth : List ℕ → List ℕ → List ℕ → Type 0
-HasBoth g R S = (room_of (count_of g) ≤ length R) × (2 * count_of g ≤ length S)
 
 -- scratch has room for c more questions after so many
 abbrev pub HasAsks : List ℕ → List ℕ → ℕ → ℕ → Type 0

@@ -1,12 +1,13 @@
--- One definition for each shape of contract, over the parameters that a function is lent.
---     Settles, SettlesBy, SettlesSolved   what a step at one node leaves, whatever the call brings, or as its words say
---     Asks, Solves, SolvesThen            what a question leaves, and what a chain of them
---     Walks, WalksFrom, WalksIn           what a visit leaves
---     Pushes, PutsRow, PutsMark           one change of a buffer
---     RetainsBad, JudgesBads, JudgesNexts, AnswersLast   what judging an entry or a list leaves
---     SetsUp, Begins, Writes, HandsOver, EndsBads, RunsWhole   the buffers before the walk and after it, and a whole run
+-- One definition for each shape of contract, over the folder before and after, or over the parameters that a function is lent.
+--     Pushes, PutsRow, PutsMark   one change of a buffer
+--     Settles, SettlesAsked   what a step at one node leaves
+--     Asks, Solves        what a question leaves, and what a chain of them
+--     Takes, Walks, WalksAll    what an input taken leaves, what a visit, and what the visits of a list
+--     RepliesBy, JudgesBad, RetainsBad, JudgesBads, AnswersLast    what judging a bad or a list of them leaves, and the last question
+--     JudgesNext, JudgesNexts    what judging a sequential and all of them leaves
+--     SetsUp, Begins, Writes, HandsOver    the buffers before the walk and after it
 -- Assumes nothing.
-use Rattle.std.specs.Prelude.{ℕ, ◌+◌, ◌*◌, ◌≤◌, ◌≡◌, Bool, length, get_or, take}
+use Rattle.std.specs.Prelude.{ℕ, ◌+◌, ◌≤◌, ◌≡◌, Bool, length, take, ⊤, Result}
 use mathlib.Core.List.{List, [], ◌∷◌, flatten}
 use Rattle.rules.specs.Lent.{Lent, was, LentMut, old, ends}
 use Rattle.rules.specs.Refusal.{Out}
@@ -15,265 +16,140 @@ use Rattle.rules.specs.Model.{Model, Mode}
 use Rattle.rules.specs.Walk.{St, Held, set_row, set_mark, add_const, start}
 use Rattle.rules.specs.Fold.{Fold}
 use Rattle.rules.specs.Visit.{Ways}
-use Rattle.rules.specs.Whole.{judge_sequentials, visit_all, fold_bads}
 use Rattle.rules.specs.Whole as whole
+use Rattle.rules.specs.Whole.{judge_sequentials, visit_all}
 use Rattle.rules.specs.Result.{result_words}
+use Rattle.tables.specs.declared.refusal.Refusal.{Refusal}
+use Rattle.optimize.specs.declared.lists.Lists.{Lists}
 use Rattle.optimize.specs.declared.walk.Walk.{Walk}
-use Rattle.optimize.specs.declared.walk.Visited.{Visited}
-use Rattle.optimize.specs.declared.walk.Walked.{Walked}
-use Rattle.optimize.specs.declared.walk.Optimized.{Optimized}
+use Rattle.optimize.specs.declared.result.ResultWords.{ResultWords}
+use Rattle.optimize.specs.declared.call.Call.{Call}
+use Rattle.optimize.specs.declared.folder.ConstantFolder.{ConstantFolder}
 use Rattle.optimize.specs.declared.fold.Folded.{Folded}
-use Rattle.optimize.specs.declared.smt_solver.Asked.{Asked}
+use Rattle.optimize.specs.declared.mark.Mark.{Mark}
+use Rattle.optimize.specs.declared.reply.Reply.{Reply}
+use Rattle.optimize.specs.Bounds.{count_of}
+use Rattle.optimize.specs.View.{node_of, mark_is, view, outcome_of, table_of}
+use Rattle.optimize.specs.Call.{ways_of}
+use Rattle.optimize.specs.Folder.{given_in, count_in, seen}
+use Rattle.optimize.specs.Process.{replied, settle_then, solved_of, take_of, visit_of}
 use Rattle.optimize.specs.declared.bads.Judging.{Judging}
-use Rattle.optimize.specs.declared.bads.Retained.{Retained}
-use Rattle.optimize.specs.declared.bads.Judged.{Judged}
-use Rattle.optimize.specs.declared.last_question.Answered.{Answered}
-use Rattle.optimize.specs.declared.result.Kept.{Kept}
-use Rattle.optimize.specs.declared.result.Sizes.{Sizes}
-use Rattle.optimize.specs.Bounds.{count_of, HasAsks}
-use Rattle.optimize.specs.View.{node_of, mark_by, view, outcome_of, table_of, ways_in, Meets}
-use Rattle.optimize.specs.Counters.{walk_in, answer_in}
-use Rattle.optimize.specs.Process.{asked_of, asked_by, solved_of, settle_then, take_of, visit_of}
-use Rattle.optimize.specs.CallWords.{inputs_in, replies_in, mode_in, ways_by, VisitsBy}
-use Rattle.optimize.specs.Lists.{entries_of, joined, WalksTo, LaidAfter}
-use Rattle.optimize.specs.Bads.{retained_of, judged_of, reply_rule, bad_rule, visited_rule, list_rule, BadsLeft}
-use Rattle.optimize.specs.LastQuestion.{answered_of, forgotten}
+use Rattle.optimize.specs.declared.last_question.Verdict.{Verdict}
+use Rattle.optimize.specs.Lists.{joined, walked_of}
+use Rattle.optimize.specs.Bads.{retained_of, judged_of, reply_rule, bad_rule, retain_rule, list_rule}
+use Rattle.optimize.specs.LastQuestion.{answered_of, verdict_is, forgotten}
 use Rattle.optimize.specs.ResultView.{untouched, folded_in, ModelOf, Wrote, Handed}
-use Rattle.optimize.specs.Runs.{model_in, Runnable, Underway, Ends, Runs}
 
--- ---- one change of a buffer, in the state that lies in both
-module _ (given : Lent) where
-  abbrev pub Pushes : LentMut → LentMut → ℕ → ℕ → Type 0
-  Pushes result counters sort value =
-      (h : List Held) (inputs replies S : List ℕ)
-      → view h (was given) inputs replies (ends result) S (walk_in (ends counters))
-      ≡ add_const (view h (was given) inputs replies (old result) S (walk_in (old counters))) (count_of (was given) + 2 + get_or (old counters) 0 0) sort value
+-- ---- one change of a buffer, in the state that lies in both: from the folder f to f'
+abbrev pub Pushes : ConstantFolder → ConstantFolder → ℕ → ℕ → Type 0
+Pushes f f' sort value = (h : List Held) → seen h f' ≡ add_const (seen h f) (count_in f + 2 + f.walk.made) sort value
 
-  abbrev pub PutsRow : LentMut → ℕ → ℕ → ℕ → ℕ → Type 0
-  PutsRow result node a b c =
-      (h : List Held) (inputs replies S : List ℕ) (w : Walk)
-      → view h (was given) inputs replies (ends result) S w ≡ set_row (view h (was given) inputs replies (old result) S w) node (with (node_of (was given) node) a b c)
+abbrev pub PutsRow : ConstantFolder → ConstantFolder → ℕ → ℕ → ℕ → ℕ → Type 0
+PutsRow f f' node a b c = (h : List Held) → seen h f' ≡ set_row (seen h f) node (with (node_of (given_in f) node) a b c)
 
-  abbrev pub PutsMark : LentMut → ℕ → ℕ → ℕ → Type 0
-  PutsMark scratch node mark by =
-      (h : List Held) (inputs replies R : List ℕ) (w : Walk)
-      → view h (was given) inputs replies R (ends scratch) w ≡ set_mark (view h (was given) inputs replies R (old scratch) w) node (mark_by mark by)
+abbrev pub PutsMark : ConstantFolder → ConstantFolder → ℕ → Mark → Type 0
+PutsMark f f' node mark = (h : List Held) → seen h f' ≡ set_mark (seen h f) node (mark_is mark)
 
--- ---- a step at one node: the rule's outcome from the state before
--- whatever inputs, replies and ways
-module _ (given : Lent) (result scratch counters : LentMut) (r : ℕ) where
-  abbrev pub Settles : (List ℕ → Ways → St → Out (St × ℕ)) → Type 0
-  Settles rule =
-      (h : List Held) (inputs replies : List ℕ) (ways : Ways)
-      → outcome_of h (was given) inputs replies (answer_in r (ends counters)) (ends result) (ends scratch)
-      ≡ rule (was given) ways (view h (was given) inputs replies (old result) (old scratch) (walk_in (old counters)))
+-- ---- steps of the fold under way, with the answer r
+-- at one node: the rule's outcome from the state before
+abbrev pub Settles : ConstantFolder → ConstantFolder → Result ℕ Refusal → (List ℕ → Ways → St → Out (St × ℕ)) → Type 0
+Settles f f' r rule = (h : List Held) → outcome_of (seen h f') r ≡ rule (given_in f) (ways_of f.call) (seen h f)
 
-  -- after the questions about it gave a fold
-  abbrev pub SettlesSolved : ℕ → Folded → Type 0
-  SettlesSolved node solved =
-      (h : List Held) (inputs replies : List ℕ) (ways : Ways)
-      → outcome_of h (was given) inputs replies (answer_in r (ends counters)) (ends result) (ends scratch)
-      ≡ settle_then (was given) ways node (solved_of h (was given) inputs replies solved (old counters) (old result) (old scratch))
+-- where questions about the node give what is settled
+abbrev pub SettlesAsked : ConstantFolder → ConstantFolder → Result ℕ Refusal → ℕ → (ℕ → ℕ → St → Out (St × Fold)) → Type 0
+SettlesAsked f f' r node asks = Settles f f' r (λ g ways σ. settle_then g ways node (asks ways.reply_count (count_of g) σ))
 
-  -- with the inputs that are lent
-  abbrev pub Takes : Lent → Lent → ℕ → Type 0
-  Takes inputs dumps node =
-      (h : List Held) (replies : List ℕ) (mode : Mode)
-      → Meets (was given) (was inputs) replies (answer_in r (ends counters)) (ends result) (ends scratch)
-      (take_of (was given) (ways_in (was dumps) mode replies) (view h (was given) (was inputs) replies (old result) (old scratch) (walk_in (old counters))) node)
+-- a question, with the replies of the call
+abbrev pub Asks : ConstantFolder → ConstantFolder → Result Reply Refusal → (ℕ → St → Out (St × ℕ)) → Type 0
+Asks f f' r rule = (h : List Held) → outcome_of (seen h f') (replied r) ≡ rule (length f.call.replies.now) (seen h f)
 
-  -- with the replies that are lent: what the questions give is settled
-  abbrev pub SettlesAsked : Lent → ℕ → (ℕ → ℕ → St → Out (St × Fold)) → Type 0
-  SettlesAsked replies node asks =
-      (h : List Held) (inputs : List ℕ) (ways : Ways)
-      → outcome_of h (was given) inputs (was replies) (answer_in r (ends counters)) (ends result) (ends scratch)
-      ≡ settle_then (was given) ways node
-      (asks (length (was replies)) (count_of (was given)) (view h (was given) inputs (was replies) (old result) (old scratch) (walk_in (old counters))))
-
-  -- as the words of a call say
-  abbrev pub SettlesBy : Lent → (List ℕ → Ways → St → Out (St × ℕ)) → Type 0
-  SettlesBy call rule =
-      (h : List Held) (inputs dumps : List ℕ)
-      → outcome_of h (was given) inputs (replies_in (was given) (was call)) (answer_in r (ends counters)) (ends result) (ends scratch)
-      ≡ rule (was given) (ways_by (was given) dumps (was call)) (view h (was given) inputs (replies_in (was given) (was call)) (old result) (old scratch) (walk_in (old counters)))
-
--- ---- questions, with the replies that are lent: over any result, since they change scratch and the counters alone
-module _ (given replies : Lent) (scratch : LentMut) where
-  abbrev pub Asks : Walk → Asked → (ℕ → St → Out (St × ℕ)) → Type 0
-  Asks w r rule =
-      (h : List Held) (inputs R : List ℕ)
-      → asked_of h (was given) inputs (was replies) r R (ends scratch) ≡ rule (length (was replies)) (view h (was given) inputs (was replies) R (old scratch) w)
-
-  -- where the walk has the words of scratch before a place
-  abbrev pub AsksIn : ℕ → Walk → Asked → (ℕ → St → Out (St × ℕ)) → Type 0
-  AsksIn at w r rule =
-      (h : List Held) (inputs R : List ℕ)
-      → asked_of h (was given) inputs (was replies) r R (take at (ends scratch)) ≡ rule (length (was replies)) (view h (was given) inputs (was replies) R (take at (old scratch)) w)
-
-  abbrev pub AsksBy : LentMut → ℕ → (ℕ → St → Out (St × ℕ)) → Type 0
-  AsksBy counters r rule =
-      (h : List Held) (inputs R : List ℕ)
-      → asked_by h (was given) inputs (was replies) r (ends counters) R (ends scratch)
-      ≡ rule (length (was replies)) (view h (was given) inputs (was replies) R (old scratch) (walk_in (old counters)))
-
-  abbrev pub Solves : LentMut → Folded → (ℕ → ℕ → St → Out (St × Fold)) → Type 0
-  Solves counters r rule =
-      (h : List Held) (inputs R : List ℕ)
-      → solved_of h (was given) inputs (was replies) r (ends counters) R (ends scratch)
-      ≡ rule (length (was replies)) (count_of (was given)) (view h (was given) inputs (was replies) R (old scratch) (walk_in (old counters)))
-
-  -- after those before gave a fold
-  abbrev pub SolvesThen : LentMut → Folded → Folded → (ℕ → Out (St × Fold) → Out (St × Fold)) → Type 0
-  SolvesThen counters before r rule =
-      (h : List Held) (inputs R : List ℕ)
-      → solved_of h (was given) inputs (was replies) r (ends counters) R (ends scratch)
-      ≡ rule (length (was replies)) (solved_of h (was given) inputs (was replies) before (old counters) R (old scratch))
+-- a chain of questions about a node that stays, among so many nodes
+abbrev pub Solves : ConstantFolder → ConstantFolder → Result Folded Refusal → (ℕ → ℕ → St → Out (St × Fold)) → Type 0
+Solves f f' r rule = (h : List Held) → solved_of (count_in f) (seen h f') r ≡ rule (length f.call.replies.now) (count_in f) (seen h f)
 
 -- no constant is made, and at most so many questions are put
-abbrev pub AtMost : LentMut → ℕ → Type 0
-AtMost counters c = (get_or (ends counters) 0 0 ≡ get_or (old counters) 0 0) × (get_or (ends counters) 3 0 ≤ get_or (old counters) 3 0 + c)
+abbrev pub AtMost : ConstantFolder → ConstantFolder → ℕ → Type 0
+AtMost f f' c = (f'.walk.made ≡ f.walk.made) × (f'.walk.asked ≤ f.walk.asked + c)
 
--- ---- visits: the rule's outcome, over the recursive visits at every fuel from `least` on
-module _ (given dumps call : Lent) (result scratch : LentMut) where
-  abbrev pub Walks : LentMut → ℕ → ℕ → (List ℕ → Ways → (St → ℕ → Out (St × ℕ)) → St → Out (St × ℕ)) → Type 0
-  Walks counters r least rule =
-      VisitsBy (was given) (was call) (old result) (old scratch) (walk_in (old counters)) (answer_in r (ends counters)) (ends result) (ends scratch) least
-      (λ f σ. rule (was given) (ways_by (was given) (was dumps) (was call)) (visit_of (was given) (ways_by (was given) (was dumps) (was call)) f) σ)
+-- what is left is this outcome, for some list of states that took an input
+pub record Meets (f : ConstantFolder) (r : Result ℕ Refusal) (o : Out (St × ℕ)) : Type 0 where
+  pub held : List Held
+  pub came : outcome_of (seen held f) r ≡ o
 
-  -- of an entry of a list
-  abbrev pub WalksFrom : Walk → Visited → ℕ → Type 0
-  WalksFrom w r node =
-      VisitsBy (was given) (was call) (old result) (old scratch) w r (ends result) (ends scratch) (node + 1)
-      (λ f σ. visit_of (was given) (ways_by (was given) (was dumps) (was call)) f σ node)
+-- a State takes an input
+abbrev pub Takes : ConstantFolder → ConstantFolder → Result ℕ Refusal → ℕ → Type 0
+Takes f f' r node = (h : List Held) → Meets f' r (take_of (given_in f) (ways_of f.call) (seen h f) node)
 
-  -- the same, where the walk has the words of scratch before a place
-  abbrev pub WalksIn : ℕ → Walk → Visited → ℕ → Type 0
-  WalksIn at w r node =
-      VisitsBy (was given) (was call) (old result) (take at (old scratch)) w r (ends result) (take at (ends scratch)) (node + 1)
-      (λ f σ. visit_of (was given) (ways_by (was given) (was dumps) (was call)) f σ node)
+-- a visit: the rule's outcome, over the recursive visits at every fuel from `least` on
+abbrev pub Walks : ConstantFolder → ConstantFolder → Result ℕ Refusal → ℕ → (List ℕ → Ways → (St → ℕ → Out (St × ℕ)) → St → Out (St × ℕ)) → Type 0
+Walks f f' r least rule =
+    (h : List Held) (fuel : ℕ) → least ≤ fuel
+    → Meets f' r (rule (given_in f) (ways_of f.call) (visit_of (given_in f) (ways_of f.call) fuel) (seen h f))
 
-  -- of the list that stands there
-  abbrev pub WalksAll : ℕ → ℕ → Walk → Walked → Type 0
-  WalksAll at count w r =
-      WalksTo (was given) (inputs_in (was given) (was call)) (replies_in (was given) (was call)) (old result) (take at (old scratch)) w r (ends result) (take at (ends scratch))
-      (λ σ. visit_all (table_of (was given)) (ways_by (was given) (was dumps) (was call)) σ (entries_of (old scratch) at count))
+-- the visits of a list
+abbrev pub WalksAll : ConstantFolder → ConstantFolder → List ℕ → Result ⊤ Refusal → Type 0
+WalksAll f f' nodes r = (h : List Held) → (h' : List Held) × (walked_of (seen h' f') r ≡ visit_all (table_of (given_in f)) (ways_of f.call) (seen h f) nodes)
 
-  abbrev pub StaysLaid : ℕ → Walked → Type 0
-  StaysLaid at r =
-      LaidAfter (was given) (was dumps) (inputs_in (was given) (was call)) (replies_in (was given) (was call)) (mode_in (was call)) 0 r (ends result) (take at (ends scratch))
+-- ---- bads: a reply, a condition, a bad visited and judged, and a list of them
+abbrev pub RepliesBy : Judging → ℕ → ℕ → Result Bool Refusal → Type 0
+RepliesBy how place reply r = (g : List ℕ) (ways : Ways) (σ : St) → retained_of σ r ≡ reply_rule g ways how place σ reply
 
-  -- of a list of bads: what the rules' list leaves, for some states that took an input and some bads dropped
-  abbrev pub JudgesBads : Lent → ℕ → ℕ → Judging → Walk → Judged → Type 0
-  JudgesBads bads at list how w r =
-      (h : List Held)
-      → (h' : List Held) × (dropped : List ℕ)
-      × (judged_of h' dropped (was given) (inputs_in (was given) (was call)) (replies_in (was given) (was call)) r (ends result) (ends scratch) at list
-      ≡ list_rule (was given) (ways_by (was given) (was dumps) (was call)) how 0
-      (view h (was given) (inputs_in (was given) (was call)) (replies_in (was given) (was call)) (old result) (take at (old scratch)) w) (was bads))
+module _ (f f' : ConstantFolder) (how : Judging) where
+  abbrev pub JudgesBad : ℕ → ℕ → Result Bool Refusal → Type 0
+  JudgesBad place condition r = (h : List Held) → retained_of (seen h f') r ≡ bad_rule (given_in f) (ways_of f.call) how place (seen h f) condition
 
-  abbrev pub LeavesBads : Lent → ℕ → ℕ → Walk → Judged → Type 0
-  LeavesBads bads at list w r =
-      BadsLeft (was given) (was dumps) (inputs_in (was given) (was call)) (replies_in (was given) (was call)) (mode_in (was call)) 0 (length (was bads)) (old scratch) w r (ends result) (ends scratch) at list
+  abbrev pub RetainsBad : ℕ → ℕ → Result Bool Refusal → Type 0
+  RetainsBad place bad r = (h : List Held) → (h' : List Held) × (retained_of (seen h' f') r ≡ retain_rule (given_in f) (ways_of f.call) how place bad (seen h f))
 
--- ---- judging: a bad by the reply about it, and by its condition with the replies that are lent
-abbrev pub RepliesBy : Judging → ℕ → Walk → ℕ → Retained → Type 0
-RepliesBy how place w reply r =
-    (h : List Held) (g inputs replies R S : List ℕ) (ways : Ways) → retained_of h g inputs replies r R S ≡ reply_rule g ways how place (view h g inputs replies R S w) reply
+  abbrev pub JudgesBads : List ℕ → List ℕ → Result ℕ Refusal → Type 0
+  JudgesBads bads kept r = (h : List Held) → (h' : List Held) × (D : List ℕ) × (judged_of D (seen h' f') kept r ≡ list_rule (given_in f) (ways_of f.call) how 0 (seen h f) bads)
 
-abbrev pub JudgesBad : Lent → Lent → Lent → LentMut → Judging → ℕ → Walk → ℕ → Retained → Type 0
-JudgesBad given replies result scratch how place w condition r =
-    (h : List Held) (inputs dumps : List ℕ) (mode : Mode)
-    → retained_of h (was given) inputs (was replies) r (was result) (ends scratch)
-    ≡ bad_rule (was given) (ways_in dumps mode (was replies)) how place (view h (was given) inputs (was replies) (was result) (old scratch) w) condition
+-- the last question about the bads left
+abbrev pub AnswersLast : ConstantFolder → ConstantFolder → List ℕ → Result Verdict Refusal → Type 0
+AnswersLast f f' bads r =
+    (h : List Held) (m : Model) (how : Mode) → length m.replies ≡ length f.call.replies.now
+    → answered_of (seen h f') r ≡ forgotten (whole.last_question m how (seen h f) bads)
 
--- room for the question about a bad, after its visit
-abbrev pub MayAsk : List ℕ → List ℕ → Visited → Type 0
-MayAsk g S v = (w : Walk) (a : ℕ) → v ≡ Visited.Done w a → (w.made ≤ count_of g) × HasAsks g S w.asked 1
-
--- a bad by what its visit came to, as the words of a call say
-module _ (given call result : Lent) (scratch : LentMut) (how : Judging) (place bad : ℕ) (v : Visited) (r : Retained) where
-  abbrev pub JudgedBy : List ℕ → List ℕ → Type 0
-  JudgedBy S T =
-      (h : List Held) (dumps : List ℕ)
-      → retained_of h (was given) (inputs_in (was given) (was call)) (replies_in (was given) (was call)) r (was result) T
-      ≡ visited_rule (was given) (ways_by (was given) dumps (was call)) how place bad (outcome_of h (was given) (inputs_in (was given) (was call)) (replies_in (was given) (was call)) v (was result) S)
-
-  abbrev pub RetainsBad : Type 0
-  RetainsBad = JudgedBy (old scratch) (ends scratch)
-
-  -- where the walk has the words of scratch before a place
-  abbrev pub RetainsIn : ℕ → Type 0
-  RetainsIn at = JudgedBy (take at (old scratch)) (take at (ends scratch))
-
--- the last question about the bads kept from `list` on
-abbrev pub AnswersLast : Lent → List ℕ → LentMut → ℕ → ℕ → ℕ → Walk → Answered → Type 0
-AnswersLast given replies scratch at list kept w r =
-    (h : List Held) (inputs R : List ℕ) (m : Model) (how : Mode) → length m.replies ≡ length replies
-    → answered_of h (was given) inputs replies r R (take at (ends scratch))
-    ≡ forgotten (whole.last_question m how (view h (was given) inputs replies R (take at (old scratch)) w) (entries_of (old scratch) list kept))
-
--- a sequential and those after it; all of them
-module _ (given : Lent) (scratch : LentMut) (at : ℕ) where
+-- ---- the sequentials: one and those after it; all of them, those kept at the start of a list
+module _ (f f' : ConstantFolder) (list : LentMut) where
   abbrev pub JudgesNext : ℕ → ℕ → ℕ → Type 0
-  JudgesNext kept sequential r =
-      (h : List Held) (inputs replies R ss : List ℕ) (w : Walk) → 2 * count_of (was given) + 4 * w.asked ≤ at
-      → joined (entries_of (old scratch) at kept) (judge_sequentials (table_of (was given)) (view h (was given) inputs replies R (old scratch) w) (sequential ∷ ss))
-      ≡ joined (entries_of (ends scratch) at r) (judge_sequentials (table_of (was given)) (view h (was given) inputs replies R (ends scratch) w) ss)
+  JudgesNext count sequential r =
+      (h : List Held) (ss : List ℕ)
+      → joined (take count (old list)) (judge_sequentials (table_of (given_in f)) (seen h f) (sequential ∷ ss))
+      ≡ joined (take r (ends list)) (judge_sequentials (table_of (given_in f)) (seen h f') ss)
 
-  abbrev pub JudgesNexts : Lent → ℕ → Type 0
-  JudgesNexts sequentials r =
-      (h : List Held) (inputs replies R : List ℕ) (w : Walk) → 2 * count_of (was given) + 4 * w.asked ≤ at
-      → judge_sequentials (table_of (was given)) (view h (was given) inputs replies R (old scratch) w) (was sequentials)
-      ≡ (view h (was given) inputs replies R (ends scratch) w, entries_of (ends scratch) at r)
+  abbrev pub JudgesNexts : List ℕ → ℕ → Type 0
+  JudgesNexts sequentials r = (h : List Held) → judge_sequentials (table_of (given_in f)) (seen h f) sequentials ≡ (seen h f', take r (ends list))
 
 -- ---- before the walk and after it
 abbrev pub SetsUp : Lent → LentMut → LentMut → Type 0
 SetsUp given result scratch = (inputs replies : List ℕ) → view [] (was given) inputs replies (ends result) (ends scratch) untouched ≡ start (table_of (was given)) inputs replies
 
-abbrev pub Begins : Lent → Lent → LentMut → LentMut → ℕ → ℕ → Type 0
-Begins given sequentials result scratch at r =
-    (inputs replies : List ℕ) → judge_sequentials (table_of (was given)) (start (table_of (was given)) inputs replies) (was sequentials)
-    ≡ (view [] (was given) inputs replies (ends result) (ends scratch) untouched, entries_of (ends scratch) at r)
+abbrev pub Begins : Call → Lent → LentMut → LentMut → LentMut → ℕ → Type 0
+Begins c sequentials result scratch list r =
+    judge_sequentials (table_of c.given.now) (start (table_of c.given.now) c.inputs.now c.replies.now) (was sequentials)
+    ≡ (view [] c.given.now c.inputs.now c.replies.now (ends result) (ends scratch) untouched, take r (ends list))
 
--- words written into the result from a place on
-abbrev pub Writes : LentMut → ℕ → ℕ → List ℕ → Type 0
-Writes result at r ws = Wrote (old result) (ends result) at r ws
+-- words written into the same buffer from the place on, which then stands behind them
+pub record Writes (w w' : ResultWords) (ws : List ℕ) : Type 0 where
+  pub same : w'.res.ghost_name ≡ w.res.ghost_name
+  pub size : length w'.res.now ≡ length w.res.now
+  pub place : w'.at ≡ w.at + length ws
+  pub wrote : Wrote w.res.now w'.res.now w.at w'.at ws
 
--- the result's words of the fold that lies in the buffers
-module _ (given : Lent) (result : LentMut) (scratch : Lent) (w : Walk) (kept : Kept) (sizes : Sizes) (verdict r : ℕ) where
-  abbrev pub HandsOver : List ℕ → List ℕ → Type 0
-  HandsOver inputs replies =
-      (h : List Held) (d : List ℕ) (m : Model) → ModelOf (was given) inputs replies m
-      → Handed (flatten (result_words m (folded_in h d (was given) inputs replies (old result) (was scratch) w kept sizes verdict))) (length (old result)) (ends result) r
+-- the result's words of the fold that lies in the buffers, with the lists kept
+abbrev pub WritesResult : Lent → LentMut → Lent → Walk → Lists → ℕ → ℕ → List ℕ → Type 0
+WritesResult given result scratch w kept verdict r inputs =
+    (h : List Held) (d replies : List ℕ) (m : Model) → ModelOf (was given) inputs replies m → w.used ≤ length replies
+    → Handed
+    (flatten (result_words m (folded_in h d (was given) inputs replies (old result) (was scratch) w kept.sequentials.now kept.initial.now kept.later.now verdict)))
+    (length (old result)) (ends result) r
 
-  abbrev pub WritesResult : List ℕ → Type 0
-  WritesResult inputs =
-      (h : List Held) (d replies : List ℕ) (m : Model) → ModelOf (was given) inputs replies m → w.used ≤ length replies
-      → Handed (flatten (result_words m (folded_in h d (was given) inputs replies (old result) (was scratch) w kept sizes verdict))) (length (old result)) (ends result) r
-
--- ---- a run: the model that the words of a call and its lists say
-module _ (g dumps call ss initial later : List ℕ) where
-  abbrev pub model_by : Model
-  model_by = model_in g dumps ss initial later (inputs_in g call) (replies_in g call)
-
-  abbrev pub RunnableBy : ℕ → ℕ → Type 0
-  RunnableBy r s = Runnable g dumps ss initial later (inputs_in g call) (replies_in g call) r s
-
-  abbrev pub UnderwayBy : List ℕ → List ℕ → Walk → ℕ → ℕ → Type 0
-  UnderwayBy R S w at kept = Underway g dumps ss initial later (inputs_in g call) (replies_in g call) (mode_in call) R S w at kept
-
-module _ (given dumps call ss initial later : Lent) (result scratch : LentMut) where
-  abbrev pub model_lent : Model
-  model_lent = model_by (was given) (was dumps) (was call) (was ss) (was initial) (was later)
-
-  -- from the bads on; `once` under one-query
-  abbrev pub EndsBads : Bool → ℕ → ℕ → Walk → Optimized → Type 0
-  EndsBads once at kept w r =
-      (h : List Held)
-      → Ends model_lent
-      (fold_bads model_lent (mode_in (was call)) once
-      (view h (was given) (inputs_in (was given) (was call)) (replies_in (was given) (was call)) (old result) (take at (old scratch)) w) (entries_of (old scratch) at kept))
-      (length (old result)) r (ends result)
-
-  abbrev pub RunsWhole : Optimized → Type 0
-  RunsWhole r = Runs model_lent (mode_in (was call)) (length (old result)) r (ends result)
+abbrev pub HandsOver : Call → LentMut → Lent → Walk → Lists → Verdict → ℕ → Type 0
+HandsOver c result scratch w kept verdict r =
+    (h : List Held) (d : List ℕ) (m : Model) → ModelOf c.given.now c.inputs.now c.replies.now m
+    → Handed
+    (flatten
+    (result_words m
+    (folded_in h d c.given.now c.inputs.now c.replies.now (old result) (was scratch) w kept.sequentials.now kept.initial.now kept.later.now (verdict_is verdict))))
+    (length (old result)) (ends result) r

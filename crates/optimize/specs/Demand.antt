@@ -5,7 +5,7 @@
 --     SortsIn           the sorts in the words, of every accepted call        SortsCanFail    words of which it holds, and two with another sort of which it fails
 -- What is visited, replaced, asked or dropped follows from the rules on what a call is given, never from a result: the premises are of the rules' fold.
 -- Assumes nothing.
-use Rattle.std.specs.Prelude.{ℕ, ◌+◌, ◌-◌, ◌*◌, ◌<◌, ◌≡◌, ◌⊎◌, cond, List, [], ◌∷◌, ◌++◌, length, get_or, drop, replicate, ltb, eqb}
+use Rattle.std.specs.Prelude.{ℕ, ◌+◌, ◌-◌, ◌*◌, ◌<◌, ◌≡◌, ◌⊎◌, cond, List, [], ◌∷◌, ◌++◌, length, get_or, drop, replicate, ltb, eqb, Result, Ok}
 use Rattle.btor.specs.Operators.{Reading, bit}
 use Rattle.rules.specs.Refusal.{done}
 use Rattle.rules.specs.Limits.{house}
@@ -13,14 +13,14 @@ use Rattle.rules.specs.Table.{And, Node, constant, node_at, row_width}
 use Rattle.rules.specs.Model.{Model}
 use Rattle.rules.specs.Value.{Value, number, worth, value}
 use Rattle.rules.specs.Call.{Entry, Call, Accepted, outcome, words_of, left, FaithfulTo, Premises}
-use Rattle.optimize.specs.declared.walk.Optimized.{Optimized}
+use Rattle.tables.specs.declared.refusal.Refusal.{Refusal}
 use Rattle.optimize.specs.Bounds.{count_of}
 use Rattle.optimize.specs.View.{node_of}
 use Rattle.optimize.specs.Lists.{entries_of}
 use Rattle.optimize.specs.Entries.{answered}
 
 -- what the contract of an entry point says: r is answered, and Q and S stand in result and scratch
-pub record Contract (entry : Entry) (call : Call) (r : Optimized) (Q S : List ℕ) : Type 0 where
+pub record Contract (entry : Entry) (call : Call) (r : Result ℕ Refusal) (Q S : List ℕ) : Type 0 where
   pub answer : answered r ≡ (left house entry call).answer
   pub result : Q ≡ (left house entry call).result
   pub scratch : S ≡ (left house entry call).scratch
@@ -88,7 +88,7 @@ words_with row made = 2 ∷ 1 ∷ row ∷ 3 ∷ 0 ∷ 0 ∷ 0 ∷ 16 ∷ 11 ∷ 
 unfoldable pub SortsCanFail : Type 0
 SortsCanFail = SortsIn byte_table (words_with 11 11) × (SortsIn byte_table (words_with 11 2) → ⊥) × (SortsIn byte_table (words_with 12 11) → ⊥)
 
--- a call that answered `Done count` is one that the rules accept, the result holds the rules' words and zeros after them, and they keep sorts and values
+-- a call that answered `Ok count` is one that the rules accept, the result holds the rules' words and zeros after them, and they keep sorts and values
 pub record Kept (entry : Entry) (call : Call) (count : ℕ) (Q : List ℕ) : Type 0 where
   pub accepted : Accepted
   pub follows : outcome house entry call ≡ done accepted
@@ -99,4 +99,4 @@ pub record Kept (entry : Entry) (call : Call) (count : ℕ) (Q : List ℕ) : Typ
       → KeepsIn accepted.how.reading accepted.model Q α
 
 unfoldable pub Demand3OfResult : Type 0
-Demand3OfResult = (entry : Entry) (call : Call) (count : ℕ) (Q S : List ℕ) → Contract entry call (Optimized.Done count) Q S → Kept entry call count Q
+Demand3OfResult = (entry : Entry) (call : Call) (count : ℕ) (Q S : List ℕ) → Contract entry call (Ok count) Q S → Kept entry call count Q

@@ -1,24 +1,20 @@
 -- What the end of a run finds in the buffers, before it makes sure of the counters.
---     Ended    what the walk leaves, as the contracts of the walk tell it
+--     Ended    what the walk leaves, as its contracts tell it, and room for the result with the lists kept
 -- Assumes nothing.
 use Rattle.std.specs.Prelude.{ℕ, ◌+◌, ◌*◌, ◌<◌, ◌≤◌, List, length}
-use Rattle.rules.specs.Limits.{need}
-use Rattle.optimize.specs.Bounds.{count_of, most_nodes, rows_end}
 use Rattle.rules.specs.Sections.{word_of}
-use Rattle.optimize.specs.View.{Coded}
+use Rattle.optimize.specs.declared.call.Call.{Call}
+use Rattle.optimize.specs.declared.lists.Lists.{Lists}
 use Rattle.optimize.specs.declared.walk.Walk.{Walk}
-use Rattle.optimize.specs.declared.result.Kept.{Kept}
-use Rattle.optimize.specs.declared.result.Sizes.{Sizes}
+use Rattle.optimize.specs.Bounds.{count_of, most_nodes, room_of}
+use Rattle.optimize.specs.View.{Coded}
+use Rattle.optimize.specs.ResultView.{result_room, entries_in}
 
-pub record Ended (g inputs R S : List ℕ) (w : Walk) (k : Kept) (z : Sizes) : Type 0 where
-  pub counted : 0 < length g
-  pub few : count_of g ≤ most_nodes
-  pub whole : rows_end (count_of g) ≤ length g
-  pub room : need (count_of g) z.sequentials (z.initial + z.later) (length inputs) ≤ length R
-  pub scratch : need (count_of g) z.sequentials (z.initial + z.later) (length inputs) ≤ length S
-  pub made : w.made ≤ count_of g
-  pub asked : w.asked ≤ 3 * count_of g + (z.initial + z.later) + 1
-  pub sequentials : k.sequentials ≤ z.sequentials
-  pub initial : k.initial ≤ z.initial
-  pub later : k.later ≤ z.later
-  pub known : (v : ℕ) → v < count_of g → Coded (word_of R v 0)
+pub record Ended (c : Call) (R S : List ℕ) (w : Walk) (kept : Lists) : Type 0 where
+  pub counted : 0 < length c.given.now
+  pub few : count_of c.given.now ≤ most_nodes
+  pub least : room_of (count_of c.given.now) ≤ length R
+  pub room : result_room (count_of c.given.now) w.made (entries_in kept) (length c.inputs.now) w.asked ≤ length R
+  pub scratch : 2 * count_of c.given.now + 4 * w.asked ≤ length S
+  pub made : w.made ≤ count_of c.given.now
+  pub known : (v : ℕ) → v < count_of c.given.now → Coded (word_of R v 0)

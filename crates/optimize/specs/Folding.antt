@@ -3,17 +3,17 @@
 --     fold_two, fold_one     what a rule folds to by its operands' numbers     asks_bit   the rules that minimise asks about
 --     search_is             the rules' account of a search          Falls                 the rows of Writes point down
 -- Assumes nothing.
-use Rattle.std.specs.Prelude.{ℕ, ◌<◌, ◌≡◌, Bool, true, false, List, eqb}
+use Rattle.std.specs.Prelude.{Option as Answer, Some, None, ℕ, ◌<◌, ◌≡◌, Bool, true, false, cond, List, eqb}
 use Rattle.std.proofs.Math.Option.{Option, none, some}
 use Rattle.btor.specs.Operators.{Op, Reading, compute, less}
 use Rattle.rules.specs.Table.{Write, is}
-use Rattle.rules.specs.Fold.{Fold, stays, fold_words, fold_test, fold_eq, fold_not, fold_ext, fold_and, fold_or}
+use Rattle.btor.specs.Sorts.{ones}
+use Rattle.rules.specs.Fold.{Fold, stays, swap, is_const, fold_words, fold_test, fold_eq, fold_not, fold_ext, fold_and, fold_or}
 use Rattle.rules.specs.Memory as memory
 use Rattle.optimize.specs.View.{rows_of}
 use Rattle.optimize.specs.declared.fold.Operator.{Operator}
 use Rattle.optimize.specs.declared.fold.Rule.{Rule}
 use Rattle.optimize.specs.declared.fold.Single.{Single}
-use Rattle.optimize.specs.declared.memory.Found.{Found}
 use Rattle.optimize.specs.declared.memory.Search.{Search}
 use Rattle.optimize.specs.declared.memory.Look.{Look}
 
@@ -38,6 +38,23 @@ operator_of Op.Rem = Operator.Rem
 operator_of Op.Sll = Operator.Sll
 operator_of Op.Srl = Operator.Srl
 
+-- two constants fold by g
+abbrev pub fold_constants : (ℕ → ℕ → Fold) → Option ℕ → Option ℕ → Fold
+fold_constants g none cy = stays
+fold_constants g (some x) none = stays
+fold_constants g (some x) (some y) = g x y
+
+-- And and Or alike: zeros on a side leave that side if they win and else the other, ones the other way
+abbrev pub fold_junction : Bool → (ℕ → ℕ → ℕ) → ℕ → ℕ → ℕ → Option ℕ → Option ℕ → Fold
+fold_junction zeros_win joined s x y cx cy =
+    let kept : ℕ = cond zeros_win x y in
+    let other : ℕ = cond zeros_win y x in
+    cond (is_const cx 0) (swap kept)
+    (cond (is_const cy 0) (swap other)
+    (cond (is_const cx (ones s)) (swap other)
+    (cond (is_const cy (ones s)) (swap kept)
+    (fold_words s joined cx cy))))
+
 -- a node of two operands x and y, cx and cy their numbers where they are constants, among n nodes
 abbrev pub fold_two : Reading → Rule → ℕ → ℕ → ℕ → ℕ → Option ℕ → Option ℕ → Fold
 fold_two how (Rule.Word f) n sort x y cx cy = fold_words sort (compute how (op_is f)) cx cy
@@ -61,9 +78,9 @@ asks_bit Rule.And sort = eqb sort 1
 asks_bit Rule.Or sort = false
 
 -- ---- the walk down the Writes
-abbrev pub value_is : Found → Option ℕ
-value_is (Found.Value v) = some v
-value_is Found.Nothing = none
+abbrev pub value_is : Answer ℕ → Option ℕ
+value_is (Some v) = some v
+value_is None = none
 
 abbrev pub search_is : Search → memory.Found
 search_is s = record { value = value_is s.found; looked = s.looked; unsettled = s.passed }

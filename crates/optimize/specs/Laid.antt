@@ -1,19 +1,16 @@
 -- What the walk keeps from call to call, and what a step at a fresh node may spend.
 --     Laid    the table is legal, the buffers have their room, what was made, asked and looked at is paid for by visited nodes
 --     Room    the same as a step at one node needs it
---     Visits  what a visit leaves: the rules' outcome at every fuel above the node
 -- Assumes nothing.
 use Rattle.std.specs.Prelude.{ℕ, ◌+◌, ◌*◌, ◌<◌, ◌≤◌, List, length}
 use Rattle.rules.specs.Model.{Mode}
-use Rattle.rules.specs.Refusal.{Out}
 use Rattle.rules.specs.Legal.{AllLegal}
-use Rattle.rules.specs.Walk.{St, Held}
+use Rattle.rules.specs.Walk.{Held}
 use Rattle.rules.specs.Room.{unpaid}
 use Rattle.rules.specs.Fine.{Fine, fee}
 use Rattle.optimize.specs.declared.walk.Walk.{Walk}
-use Rattle.optimize.specs.declared.walk.Visited.{Visited}
 use Rattle.optimize.specs.Bounds.{count_of, most_looked, most_nodes, room_of, rows_end}
-use Rattle.optimize.specs.View.{table_of, ways_in, mark_of, view, Meets}
+use Rattle.optimize.specs.View.{table_of, ways_in, mark_of, view}
 
 -- held are the states that took an input; scratch keeps some words in reserve, behind the questions that may still be put
 pub record Laid (g dumps inputs replies : List ℕ) (mode : Mode) (reserve : ℕ) (R S : List ℕ) (w : Walk) : Type 0 where
@@ -36,8 +33,3 @@ pub record Room (g R S : List ℕ) (w : Walk) (k : ℕ) : Type 0 where
   pub asks : 2 * count_of g + 4 * (w.asked + 3) ≤ length S
   pub looks : w.looked ≤ most_looked
   pub passed : w.passed ≤ most_looked
-
--- what the code leaves meets the outcome that a rule gives from the state before, at every fuel from `least` on
-module _ (g inputs replies R S : List ℕ) (w : Walk) (r : Visited) (R' S' : List ℕ) where
-  abbrev pub Visits : ℕ → (ℕ → St → Out (St × ℕ)) → Type 0
-  Visits least rule = (h : List Held) (f : ℕ) → least ≤ f → Meets g inputs replies r R' S' (rule f (view h g inputs replies R S w))

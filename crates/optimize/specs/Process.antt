@@ -1,28 +1,29 @@
 -- The rules' steps in the code's order, and what its answers are in the rules' terms.
 --     choice_is            the branch that a condition chooses
---     asked_of, asked_by, solved_of   the outcome of a question, of a chain of questions
+--     question_is, reply_is    the numbers of a question and of a reply       solved_of   the outcome of a chain of questions
 --     Form, form_of        what a node's visit does, by its kind             by_form   the rules' process by form
 --     one_of, two_of, ..    the visits of a node's operands, by any way to visit, then what comes after them
 -- Assumes nothing.
-use Rattle.std.specs.Prelude.{ℕ, ◌<◌, Bool, true, false, cond, List, eqb}
+use Rattle.std.specs.Prelude.{ℕ, ◌<◌, Bool, true, false, cond, List, eqb, Result, Ok, Err}
 use Rattle.rules.specs.Refusal.{Out, refused, done, ◌>>=◌}
 use Rattle.rules.specs.Table.{Kind, Const, Read, Write, Word, Ult, Ext, Ite, Eq, And, Or, Not, State, Next, Input, Bad, kind_of, with}
-use Rattle.rules.specs.Walk.{St, Held, set_row}
+use Rattle.rules.specs.Walk.{St, set_row}
 use Rattle.rules.specs.Fold.{Fold, stays, swap, make, const_of, fold_const}
-use Rattle.rules.specs.Questions.{quiet, ask_or, ask_bit, ask_ite}
+use Rattle.rules.specs.Questions.{always_true, always_false, equal, satisfiable, several, quiet, ask_or, ask_bit, ask_ite}
 use Rattle.rules.specs.Visit.{Ways, Branch, left, right, undecided, branch, settle, finish, forward, take_input, process, visit}
+use Rattle.tables.specs.declared.refusal.Refusal.{Refusal}
 use Rattle.tables.specs.Refusals.{refusal_of}
 use Rattle.optimize.specs.declared.fold.Folded.{Folded}
 use Rattle.optimize.specs.declared.fold.Rule.{Rule}
 use Rattle.optimize.specs.declared.fold.Single.{Single}
-use Rattle.optimize.specs.declared.smt_solver.Asked.{Asked}
+use Rattle.optimize.specs.declared.smt_solver.Question.{Question}
+use Rattle.optimize.specs.declared.reply.Reply.{Reply}
 use Rattle.optimize.specs.declared.form.Form.{Form}
 use Rattle.optimize.specs.declared.form.Pair.{Pair}
 use Rattle.optimize.specs.declared.form.Choice.{Choice}
 use Rattle.optimize.specs.Bounds.{count_of}
 use Rattle.rules.specs.Sections.{word_of}
-use Rattle.optimize.specs.View.{node_of, table_of, view, fold_is}
-use Rattle.optimize.specs.Counters.{walk_in, refused_in, refusal_in}
+use Rattle.optimize.specs.View.{node_of, table_of, fold_is}
 use Rattle.optimize.specs.Folding.{operator_of, fold_two, fold_one, asks_bit}
 
 -- the branch that a condition chooses
@@ -32,16 +33,27 @@ choice_is Choice.Right = right
 choice_is Choice.Undecided = undecided
 
 -- ---- questions
-unfoldable pub asked_of : List Held → List ℕ → List ℕ → List ℕ → Asked → List ℕ → List ℕ → Out (St × ℕ)
-asked_of h g inputs replies (Asked.Reply w a) R S = done (view h g inputs replies R S w, a)
-asked_of h g inputs replies (Asked.Refused r) R S = refused (refusal_of r)
+abbrev pub question_is : Question → ℕ
+question_is Question.AlwaysTrue = always_true
+question_is Question.AlwaysFalse = always_false
+question_is Question.Equal = equal
+question_is Question.Satisfiable = satisfiable
+question_is Question.Several = several
 
--- the same of a reply, and of a fold that questions gave, by the counters
-unfoldable pub asked_by : List Held → List ℕ → List ℕ → List ℕ → ℕ → List ℕ → List ℕ → List ℕ → Out (St × ℕ)
-asked_by h g inputs replies a C R S = elim (refused_in C) [ true ↦ refused (refusal_of (refusal_in C)) | false ↦ done (view h g inputs replies R S (walk_in C), a) ]
+-- the number of a reply, and of one that a question took
+abbrev pub reply_is : Reply → ℕ
+reply_is Reply.No = 0
+reply_is Reply.Yes = 1
+reply_is Reply.Satisfiable = 2
 
-unfoldable pub solved_of : List Held → List ℕ → List ℕ → List ℕ → Folded → List ℕ → List ℕ → List ℕ → Out (St × Fold)
-solved_of h g inputs replies f C R S = elim (refused_in C) [ true ↦ refused (refusal_of (refusal_in C)) | false ↦ done (view h g inputs replies R S (walk_in C), fold_is f) ]
+abbrev pub replied : Result Reply Refusal → Result ℕ Refusal
+replied (Ok r) = Ok (reply_is r)
+replied (Err r) = Err r
+
+-- what a fold that questions gave comes to, among n nodes
+unfoldable pub solved_of : ℕ → St → Result Folded Refusal → Out (St × Fold)
+solved_of n σ (Ok f) = done (σ, fold_is n f)
+solved_of n σ (Err r) = refused (refusal_of r)
 
 abbrev pub is_stays : Fold → Bool
 is_stays stays = true

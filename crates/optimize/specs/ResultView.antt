@@ -3,33 +3,33 @@
 --     Finished    what the walk leaves in the buffers         folded_in     the rules' fold that lies there
 --     Wrote       words put behind those before a place       Handed       the words handed back, and zeros after them
 -- Assumes nothing.
-use Rattle.std.specs.Prelude.{ℕ, ◌+◌, ◌-◌, ◌*◌, ◌<◌, ◌≤◌, ◌≡◌, List, [], ◌∷◌, ◌++◌, length, take, replicate}
-use Rattle.rules.specs.Limits.{need}
+use Rattle.std.specs.Prelude.{ℕ, ◌+◌, ◌-◌, ◌*◌, ◌<◌, ◌≤◌, ◌≡◌, List, [], ◌∷◌, ◌++◌, length, take, drop, replicate}
 use Rattle.rules.specs.Model.{Model}
 use Rattle.rules.specs.Walk.{Held}
 use Rattle.rules.specs.Whole.{Folded}
-use Rattle.rules.specs.Result.{listed}
-use Rattle.optimize.specs.Bounds.{count_of, most_nodes, room_of, rows_end}
+use Rattle.rules.specs.Lists.{sum}
+use Rattle.rules.specs.Table.{row_width}
+use Rattle.rules.specs.Result.{is_replaced, mark_words, gather, listed}
+use Rattle.optimize.specs.Bounds.{count_of, constants_at, most_nodes, room_of, rows_end}
 use Rattle.rules.specs.Sections.{word_of}
-use Rattle.optimize.specs.View.{Coded, view}
+use Rattle.optimize.specs.View.{Coded, mark_of, view}
 use Rattle.optimize.specs.Lists.{entries_of}
+use Rattle.optimize.specs.declared.lists.Lists.{Lists}
 use Rattle.optimize.specs.declared.walk.Walk.{Walk}
-use Rattle.optimize.specs.declared.result.Kept.{Kept}
-use Rattle.optimize.specs.declared.result.Sizes.{Sizes}
 
 -- ---- before the walk
 -- each given code is that of a kind
 abbrev pub KindsKnown : List ℕ → Type 0
 KindsKnown g = (v : ℕ) → v < count_of g → Coded (word_of g v 0)
 
--- a table of so many nodes is there, its kinds known, and both buffers (of lengths r and s) have room for one without lists
+-- a table of so many nodes is there, its kinds known; the result (of length r) has room for one without lists, scratch (of length s) for its marks
 pub record Ready (g : List ℕ) (r s : ℕ) : Type 0 where
   pub known : KindsKnown g
   pub counted : 0 < length g
   pub few : count_of g ≤ most_nodes
   pub whole : rows_end (count_of g) ≤ length g
   pub room : room_of (count_of g) ≤ r
-  pub scratch : room_of (count_of g) ≤ s
+  pub scratch : 2 * count_of g ≤ s
 
 abbrev pub untouched : Walk
 untouched = record { made = 0; taken = 0; used = 0; asked = 0; looked = 0; passed = 0 }
@@ -39,29 +39,33 @@ untouched = record { made = 0; taken = 0; used = 0; asked = 0; looked = 0; passe
 abbrev pub lists_at : ℕ → ℕ → ℕ
 lists_at n b = 2 * n + 4 * (3 * n + b + 1)
 
--- room, counters and kinds as the walk leaves them, for the inputs given
-pub record Finished (g inputs R S : List ℕ) (w : Walk) (k : Kept) (z : Sizes) : Type 0 where
+-- how many words a result can have: n nodes and as many replaced, the constants made, the entries of the three lists, the inputs left, the questions
+abbrev pub result_room : ℕ → ℕ → ℕ → ℕ → ℕ → ℕ
+result_room n made entries inputs asked = constants_at n + 2 * (2 + made) + (1 + 2 * n) + (3 + entries) + (1 + inputs) + (1 + 4 * asked) + 6
+
+-- how many entries three lists have
+abbrev pub entries_in : Lists → ℕ
+entries_in l = length l.sequentials.now + length l.initial.now + length l.later.now
+
+-- room, counters and kinds as the walk leaves them, for the inputs given and the lists kept
+pub record Finished (g inputs R S : List ℕ) (w : Walk) (kept : Lists) : Type 0 where
   pub counted : 0 < length g
   pub few : count_of g ≤ most_nodes
-  pub room : need (count_of g) z.sequentials (z.initial + z.later) (length inputs) ≤ length R
-  pub scratch : need (count_of g) z.sequentials (z.initial + z.later) (length inputs) ≤ length S
+  pub least : room_of (count_of g) ≤ length R
+  pub room : result_room (count_of g) w.made (entries_in kept) (length inputs) w.asked ≤ length R
+  pub scratch : 2 * count_of g + 4 * w.asked ≤ length S
   pub made : w.made ≤ count_of g
-  pub asked : w.asked ≤ 3 * count_of g + (z.initial + z.later) + 1
   pub taken : w.taken ≤ length inputs
-  pub sequentials : k.sequentials ≤ z.sequentials
-  pub initial : k.initial ≤ z.initial
-  pub later : k.later ≤ z.later
   pub known : (v : ℕ) → v < count_of g → Coded (word_of R v 0)
 
--- the fold that lies in the buffers; the states that took an input (h) and the bads dropped (d) lie in none
-unfoldable pub folded_in : List Held → List ℕ → List ℕ → List ℕ → List ℕ → List ℕ → List ℕ → Walk → Kept → Sizes → ℕ → Folded
-folded_in h d g inputs replies R S w k z verdict =
-    let at : ℕ = lists_at (count_of g) (z.initial + z.later) in
+-- the fold that lies in the buffers, with the lists kept; the states that took an input (h) and the bads dropped (d) lie in none
+unfoldable pub folded_in : List Held → List ℕ → List ℕ → List ℕ → List ℕ → List ℕ → List ℕ → Walk → List ℕ → List ℕ → List ℕ → ℕ → Folded
+folded_in h d g inputs replies R S w ss initial later verdict =
     record {
       state = view h g inputs replies R S w;
-      sequentials = entries_of S at k.sequentials;
-      initial = entries_of S (at + z.sequentials) k.initial;
-      later = entries_of S (at + z.sequentials + z.initial) k.later;
+      sequentials = ss;
+      initial = initial;
+      later = later;
       dropped = d;
       verdict = verdict;
     }
@@ -78,24 +82,21 @@ pub record Wrote (R Q : List ℕ) (at r : ℕ) (ws : List ℕ) : Type 0 where
   pub front : take r Q ≡ take at R ++ ws
   pub fits : r ≤ length Q
 
--- the kept lists stand in S from the place `at` on, each with the room of the given one
-pub record KeptIn (S : List ℕ) (at : ℕ) (k : Kept) (z : Sizes) : Type 0 where
-  pub sequentials : k.sequentials ≤ z.sequentials
-  pub initial : k.initial ≤ z.initial
-  pub later : k.later ≤ z.later
-  pub room : at + z.sequentials + z.initial + z.later ≤ length S
+-- rows and constants, each after its count
+abbrev pub front_words : ℕ → ℕ → List ℕ → List ℕ
+front_words n made R = (n ∷ entries_of R 1 (row_width * n)) ++ ((2 + made) ∷ entries_of R (constants_at n) (2 * (2 + made)))
+
+-- replacements after their count
+abbrev pub pair_words : ℕ → List ℕ → List ℕ
+pair_words n S = sum n (λ k. is_replaced (mark_of n S k)) ∷ gather n 0 (λ k. mark_words k (mark_of n S k))
 
 -- the three kept lists, each after its count
-abbrev pub kept_words : List ℕ → ℕ → Kept → Sizes → List ℕ
-kept_words S at k z =
-    (k.sequentials ∷ entries_of S at k.sequentials)
-    ++ ((k.initial ∷ entries_of S (at + z.sequentials) k.initial) ++ (k.later ∷ entries_of S (at + z.sequentials + z.initial) k.later))
+abbrev pub kept_words : Lists → List ℕ
+kept_words l = listed l.sequentials.now ++ (listed l.initial.now ++ listed l.later.now)
 
 -- the inputs left, the questions and the tally, each after its count
-abbrev pub rest_words : List ℕ → List ℕ → ℕ → Walk → ℕ → List ℕ
-rest_words inputs S n w verdict =
-    ((length inputs - w.taken) ∷ entries_of inputs w.taken (length inputs - w.taken))
-    ++ ((w.asked ∷ entries_of S (n + n) (4 * w.asked)) ++ listed (w.taken ∷ w.used ∷ w.looked ∷ w.passed ∷ verdict ∷ []))
+abbrev pub rest_words : List ℕ → List ℕ → Walk → ℕ → List ℕ
+rest_words inputs questions w verdict = listed (drop w.taken inputs) ++ ((w.asked ∷ questions) ++ listed (w.taken ∷ w.used ∷ w.looked ∷ w.passed ∷ verdict ∷ []))
 
 -- ws, zeros in the rest of the room, and how many words ws are
 pub record Handed (ws : List ℕ) (room : ℕ) (Q : List ℕ) (r : ℕ) : Type 0 where

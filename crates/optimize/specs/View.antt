@@ -1,35 +1,38 @@
--- How the state of the walk lies in the two lent buffers and in the counters handed on.
+-- How the state of the walk lies in the two lent buffers and in the counters.
 --     table_of    the nodes of the given words          rows_of, mark_of, question_of    what result and scratch hold
---     view       the rules' state                      outcome_of                     the rules' outcome of a visit
+--     mark_is    the rules' mark of one                view    the rules' state               outcome_of    the rules' outcome of an answer
 -- Result: the count of nodes, the words of each, the count of constants, two words for each (the two shared ones first).
 -- Scratch: a mark for each node, a replacement for each, four words for each question, and after them the kept lists.
 -- Assumes nothing.
-use Rattle.std.specs.Prelude.{ℕ, zero, suc, ◌+◌, ◌-◌, ◌*◌, ◌≡◌, true, false, cond, List, [], ◌∷◌, ◌++◌, length, get_or, drop, ltb, eqb}
+use Rattle.std.specs.Prelude.{Option as Answer, Some, None, ℕ, zero, suc, ◌+◌, ◌-◌, ◌*◌, ◌≡◌, true, false, cond, List, [], ◌∷◌, ◌++◌, length, get_or, drop, ltb, eqb, Result, Ok, Err}
 use Rattle.std.proofs.Math.Option.{Option, none, some}
 use Rattle.rules.specs.Model.{Mode}
 use Rattle.rules.specs.Refusal.{Out, refused, done}
 use Rattle.rules.specs.Sections.{word_of}
 use Rattle.rules.specs.Table.{Node, kind_of, kind_code, constant, unknown}
 use Rattle.rules.specs.Walk.{St, Mark, fresh, kept, replaced, Question, Held}
-use Rattle.rules.specs.Fold.{Fold, stays, swap, make}
+use Rattle.rules.specs.Fold.{Fold, stays, swap, make, shared}
 use Rattle.rules.specs.Questions.{question}
 use Rattle.rules.specs.Visit.{Ways}
+use Rattle.tables.specs.declared.refusal.Refusal.{Refusal}
 use Rattle.tables.specs.Refusals.{refusal_of}
 use Rattle.optimize.specs.Bounds.{count_of, constants_at}
-use Rattle.optimize.specs.declared.fold.Constant.{Constant}
 use Rattle.optimize.specs.declared.fold.Folded.{Folded}
+use Rattle.optimize.specs.declared.mark.Mark.{Mark as Recorded}
 use Rattle.optimize.specs.declared.walk.Walk.{Walk}
-use Rattle.optimize.specs.declared.walk.Visited.{Visited}
 
 -- ---- answers
-abbrev pub constant_is : Constant → Option ℕ
-constant_is (Constant.Imm x) = some x
-constant_is Constant.None = none
+-- the number of a constant, or a place: what the code answers, as the rules have it
+abbrev pub constant_is : Answer ℕ → Option ℕ
+constant_is (Some x) = some x
+constant_is None = none
 
-abbrev pub fold_is : Folded → Fold
-fold_is Folded.Stays = stays
-fold_is (Folded.Swap r) = swap r
-fold_is (Folded.Make s x) = make s x
+-- a fold, among n nodes
+abbrev pub fold_is : ℕ → Folded → Fold
+fold_is n Folded.Stays = stays
+fold_is n (Folded.Swap r) = swap r
+fold_is n (Folded.Shared t) = shared n t
+fold_is n (Folded.Make s x) = make s x
 
 -- ---- the given words
 abbrev pub node_of : List ℕ → ℕ → Node
@@ -80,6 +83,12 @@ rows_of n made R k =
 abbrev pub mark_by : ℕ → ℕ → Mark
 mark_by m r = elim (eqb m 0) [ true ↦ fresh | false ↦ elim (eqb m 1) [ true ↦ kept | false ↦ replaced r ] ]
 
+-- as the code has it
+abbrev pub mark_is : Recorded → Mark
+mark_is Recorded.Fresh = fresh
+mark_is Recorded.Kept = kept
+mark_is (Recorded.Replaced by) = replaced by
+
 unfoldable pub mark_of : ℕ → List ℕ → ℕ → Mark
 mark_of n S k = elim (ltb k n) [ true ↦ mark_by (get_or S k 0) (get_or S (n + k) 0) | false ↦ fresh ]
 
@@ -101,10 +110,7 @@ view h g inputs replies R S w =
       passed = w.passed;
     }
 
-unfoldable pub outcome_of : List Held → List ℕ → List ℕ → List ℕ → Visited → List ℕ → List ℕ → Out (St × ℕ)
-outcome_of h g inputs replies (Visited.Done w r) R S = done (view h g inputs replies R S w, r)
-outcome_of h g inputs replies (Visited.Refused r) R S = refused (refusal_of r)
-
--- what the code leaves is this outcome, for some list of states that took an input
-abbrev pub Meets : List ℕ → List ℕ → List ℕ → Visited → List ℕ → List ℕ → Out (St × ℕ) → Type 0
-Meets g inputs replies r R S o = (h : List Held) × (outcome_of h g inputs replies r R S ≡ o)
+-- what an answer comes to, with the state that stands then
+unfoldable pub outcome_of : {A : Type 0} → St → Result A Refusal → Out (St × A)
+outcome_of σ (Ok x) = done (σ, x)
+outcome_of σ (Err r) = refused (refusal_of r)

@@ -1,34 +1,28 @@
 // What a node folds to, from its rewritten operands: the fold functions of optimize.rs. Nothing here touches a buffer.
-ghost use Rattle.std.specs.Prelude.{◌≡◌, ◌≤◌};
-ghost use Rattle.btor.specs.Operators.{compute, complement, less};
+ghost use Rattle.std.specs.Prelude.{◌≡◌, ℕ, Bool, true, false, refl};
+ghost use Rattle.std.proofs.Math.Option.{Option};
+ghost use Rattle.btor.specs.Operators.{compute, complement, less, both, either};
 ghost use Rattle.btor.specs.Readings.{reading_is};
 ghost use Rattle.btor.specs.Sorts.{width, ones};
-ghost use Rattle.rules.specs.Fold.{shared, is_const, fold_const, fold_words, fold_test, fold_eq, fold_not, fold_ext, fold_and, fold_or};
-ghost use Rattle.optimize.specs.Bounds.{most_nodes};
+ghost use Rattle.rules.specs.Fold.{Fold, fold_const, fold_words, fold_test, fold_eq, fold_not, fold_ext, fold_and, fold_or};
 ghost use Rattle.optimize.specs.View.{constant_is, fold_is};
-ghost use Rattle.optimize.specs.Folding.{op_is, fold_two, fold_one, asks_bit};
+ghost use Rattle.optimize.specs.Folding.{op_is, fold_constants, fold_junction, fold_two, fold_one, asks_bit};
 
-use btor::node_type::{CodedSort, NodeType};
+use btor::node_type::NodeType;
 use btor::operators;
 use btor::reading::Reading;
 
-// The number of a node that is a constant.
-#[derive(Clone, Copy)]
-pub(crate) enum Constant {
-    Imm(u64),
-    None,
-}
-
-// A node stays, or another node or a new constant (sort, number) takes its place.
-#[derive(Clone, Copy)]
+// A node stays, or another node, the shared false or true, or a new constant (sort, number) takes its place.
+#[derive(Clone, Copy, Debug, PartialEq, Eq)]
 pub(crate) enum Folded {
     Stays,
     Swap(usize),
+    Shared(bool),
     Make(u64, u64),
 }
 
-// What two words are folded by: the function that fold_any_binary is handed.
-#[derive(Clone, Copy)]
+// What two words are folded by. It stays an enum: the form of a node, which holds it, is handed out, and a function may not be.
+#[derive(Clone, Copy, Debug, PartialEq, Eq)]
 pub(crate) enum Operator {
     Add,
     Sub,
@@ -40,8 +34,8 @@ pub(crate) enum Operator {
     Srl,
 }
 
-// The rule of a node of two operands that folds.
-#[derive(Clone, Copy)]
+// The rule of a node of two operands that folds. It stays an enum for the reason of Operator, and so does Single.
+#[derive(Clone, Copy, Debug, PartialEq, Eq)]
 pub(crate) enum Rule {
     Word(Operator),
     Ult,
@@ -51,7 +45,7 @@ pub(crate) enum Rule {
 }
 
 // The rule of a node of one operand. A Bad and a State with an init stay.
-#[derive(Clone, Copy)]
+#[derive(Clone, Copy, Debug, PartialEq, Eq)]
 pub(crate) enum Single {
     Ext,
     Not,
@@ -59,6 +53,7 @@ pub(crate) enum Single {
 }
 
 impl Operator {
+    #[tactic(auto, unfolding(btor::specs::Operators::compute))]
     fn apply(self, how: Reading, left: u64, right: u64) -> u64
         ensures { result ≡ compute (reading_is how) (op_is self) left right }
     {
@@ -75,232 +70,228 @@ impl Operator {
     }
 }
 
+// And and Or: of zeros and ones on a side one wins and the other yields the other side.
+trait Junction {
+    ghost ZEROS_WIN: { Bool };
+
+    ghost joined: { ℕ → ℕ → ℕ };
+
+    // What the rules fold it to.
+    ghost rule: { ℕ → ℕ → ℕ → Option ℕ → Option ℕ → Fold };
+
+    const ZEROS_WIN: bool;
+
+    fn join(left: u64, right: u64) -> u64
+        ensures { result ≡ joined left right };
+
+    ghost by_rule: { (s x y : ℕ) (cx cy : Option ℕ) → fold_junction ZEROS_WIN joined s x y cx cy ≡ rule s x y cx cy };
+}
+
+struct And;
+
+impl Junction for And {
+    ghost ZEROS_WIN = { true };
+
+    ghost joined = { both };
+
+    ghost rule = { fold_and };
+
+    ghost by_rule = { λ s x y cx cy. refl };
+
+    const ZEROS_WIN: bool = true;
+
+    fn join(left: u64, right: u64) -> u64 {
+        operators::and(left, right)
+    }
+}
+
+struct Or;
+
+impl Junction for Or {
+    ghost ZEROS_WIN = { false };
+
+    ghost joined = { either };
+
+    ghost rule = { fold_or };
+
+    ghost by_rule = { λ s x y cx cy. refl };
+
+    const ZEROS_WIN: bool = false;
+
+    fn join(left: u64, right: u64) -> u64 {
+        operators::or(left, right)
+    }
+}
+
 // All ones of the sort with a code; 0 where the code names none.
 fn all_ones(sort: u64) -> u64
     ensures { result ≡ ones sort }
 {
-    match NodeType::from_code(sort) {
-        CodedSort::Known(known) => known.ones(),
-        CodedSort::Unknown => 0,
-    }
+    NodeType::try_from(sort).map_or(0, |known| known.ones())
 }
 
 // The complement within the width of the sort with a code; 0 where the code names none.
 fn complement_in(sort: u64, value: u64) -> u64
     ensures { result ≡ complement (width sort) value }
 {
-    match NodeType::from_code(sort) {
-        CodedSort::Known(known) => operators::not(value, known),
-        CodedSort::Unknown => 0,
-    }
-}
-
-// The shared false or true, behind the n nodes of the table.
-fn shared_constant(n: usize, truth: bool) -> Folded
-    requires { n ≤ most_nodes }
-    ensures { fold_is result ≡ shared n truth }
-{
-    if truth {
-        Folded::Swap(n + 1)
-    } else {
-        Folded::Swap(n)
-    }
-}
-
-fn is_const_zeroes(value: Constant) -> bool
-    ensures { result ≡ is_const (constant_is value) 0 }
-{
-    let Constant::Imm(imm) = value else {
-        return false;
-    };
-    imm == 0
-}
-
-fn is_const_ones(value: Constant, sort: u64) -> bool
-    ensures { result ≡ is_const (constant_is value) (ones sort) }
-{
-    let Constant::Imm(imm) = value else {
-        return false;
-    };
-    imm == all_ones(sort)
+    NodeType::try_from(sort).map_or(0, |known| operators::not(value, known))
 }
 
 // A constant of one bit becomes the shared one.
-pub(crate) fn fold_const(n: usize, sort: u64, value: u64) -> Folded
-    requires { n ≤ most_nodes }
-    ensures { fold_is result ≡ fold_const n sort value }
+pub(crate) fn fold_const(sort: u64, value: u64) -> Folded
+    ensures { (n : ℕ) → fold_is n result ≡ fold_const n sort value }
 {
     if sort == NodeType::BIT {
         if value == 0 {
-            return Folded::Swap(n);
+            return Folded::Shared(false);
         }
         if value == 1 {
-            return Folded::Swap(n + 1);
+            return Folded::Shared(true);
         }
     }
     Folded::Stays
 }
 
-// Two constant words make a new constant, of the node's own sort.
-fn fold_any_binary(how: Reading, sort: u64, left: Constant, right: Constant, f: Operator) -> Folded
-    ensures { fold_is result ≡ fold_words sort (compute (reading_is how) (op_is f)) (constant_is left) (constant_is right) }
+// Two constants fold to what f makes of their numbers.
+fn fold_constants<F: Fn(u64, u64) -> Folded>(left: Option<u64>, right: Option<u64>, f: F) -> Folded
+    requires { F.IsAlwaysCallable f }
+    ensures { (n : ℕ) (g : ℕ → ℕ → Fold) → ((x y : ℕ) (r : Folded) → F.post f x y r → fold_is n r ≡ g x y) → fold_is n result ≡ fold_constants g (constant_is left) (constant_is right) }
 {
-    let Constant::Imm(left_imm) = left else {
+    let Some(left_imm) = left else {
         return Folded::Stays;
     };
-    let Constant::Imm(right_imm) = right else {
+    let Some(right_imm) = right else {
         return Folded::Stays;
     };
-    Folded::Make(sort, f.apply(how, left_imm, right_imm))
+    f(left_imm, right_imm)
 }
 
-fn fold_ult(n: usize, left: Constant, right: Constant) -> Folded
-    requires { n ≤ most_nodes }
-    ensures { fold_is result ≡ fold_test n less (constant_is left) (constant_is right) }
+// Two constant words make a new constant, of the node's own sort.
+fn fold_any_binary<F: Fn(u64, u64) -> u64>(
+    sort: u64,
+    left: Option<u64>,
+    right: Option<u64>,
+    f: F,
+) -> Folded
+    requires { F.IsAlwaysCallable f }
+    ensures { (n : ℕ) (g : ℕ → ℕ → ℕ) → ((x y z : ℕ) → F.post f x y z → z ≡ g x y) → fold_is n result ≡ fold_words sort g (constant_is left) (constant_is right) }
 {
-    let Constant::Imm(left_imm) = left else {
-        return Folded::Stays;
-    };
-    let Constant::Imm(right_imm) = right else {
-        return Folded::Stays;
-    };
-    shared_constant(n, operators::ult(left_imm, right_imm))
+    fold_constants(left, right, |x, y| Folded::Make(sort, f(x, y)))
+}
+
+fn fold_ult(left: Option<u64>, right: Option<u64>) -> Folded
+    ensures { (n : ℕ) → fold_is n result ≡ fold_test n less (constant_is left) (constant_is right) }
+{
+    fold_constants(left, right, |x, y| Folded::Shared(operators::ult(x, y)))
 }
 
 // A node x equals itself; else two constants are compared.
-fn fold_eq(n: usize, x: usize, y: usize, left: Constant, right: Constant) -> Folded
-    requires { n ≤ most_nodes }
-    ensures { fold_is result ≡ fold_eq n x y (constant_is left) (constant_is right) }
+fn fold_eq(x: usize, y: usize, left: Option<u64>, right: Option<u64>) -> Folded
+    ensures { (n : ℕ) → fold_is n result ≡ fold_eq n x y (constant_is left) (constant_is right) }
 {
     if x == y {
-        return shared_constant(n, true);
+        return Folded::Shared(true);
     }
-    let Constant::Imm(left_imm) = left else {
-        return Folded::Stays;
-    };
-    let Constant::Imm(right_imm) = right else {
-        return Folded::Stays;
-    };
-    shared_constant(n, operators::eq(left_imm, right_imm))
+    fold_constants(left, right, |x, y| Folded::Shared(operators::eq(x, y)))
 }
 
-// Zeros win, then ones yield the other side; two other constants make one of the And's own sort, also where that is a byte's.
-fn fold_and(sort: u64, x: usize, y: usize, left: Constant, right: Constant) -> Folded
-    ensures { fold_is result ≡ fold_and sort x y (constant_is left) (constant_is right) }
+// Zeros win or yield the other side, then ones the other way; two other constants make one of the node's own sort, also where that is a byte's.
+fn fold_junction<J: Junction>(
+    sort: u64,
+    x: usize,
+    y: usize,
+    left: Option<u64>,
+    right: Option<u64>,
+) -> Folded
+    ensures { (n : ℕ) → fold_is n result ≡ J.rule sort x y (constant_is left) (constant_is right) }
 {
-    let left_zeroes = is_const_zeroes(left);
-    let right_zeroes = is_const_zeroes(right);
-    let left_ones = is_const_ones(left, sort);
-    let right_ones = is_const_ones(right, sort);
-    if left_zeroes { // AND(zeroes, _) -> zeroes
-        return Folded::Swap(x);
+    let ones = all_ones(sort);
+    let (kept, other) = if J::ZEROS_WIN { (x, y) } else { (y, x) };
+    if left == Some(0) { // AND(zeroes, _) -> zeroes, OR(zeroes, y) -> y
+        return Folded::Swap(kept);
     }
-    if right_zeroes { // AND(_, zeroes) -> zeroes
-        return Folded::Swap(y);
+    if right == Some(0) { // AND(_, zeroes) -> zeroes, OR(x, zeroes) -> x
+        return Folded::Swap(other);
     }
-    if left_ones { // AND(ones, y) -> y
-        return Folded::Swap(y);
+    if left == Some(ones) { // AND(ones, y) -> y, OR(ones, _) -> ones
+        return Folded::Swap(other);
     }
-    if right_ones { // AND(x, ones) -> x
-        return Folded::Swap(x);
+    if right == Some(ones) { // AND(x, ones) -> x, OR(_, ones) -> ones
+        return Folded::Swap(kept);
     }
-    let Constant::Imm(left_imm) = left else {
-        return Folded::Stays;
-    };
-    let Constant::Imm(right_imm) = right else {
-        return Folded::Stays;
-    };
-    Folded::Make(sort, operators::and(left_imm, right_imm))
+    fold_any_binary(sort, left, right, |x, y| J::join(x, y))
 }
 
-// Zeros yield the other side, then ones win; two other constants make one of the Or's own sort, also where that is a byte's.
-fn fold_or(sort: u64, x: usize, y: usize, left: Constant, right: Constant) -> Folded
-    ensures { fold_is result ≡ fold_or sort x y (constant_is left) (constant_is right) }
+// Zeros win, then ones yield the other side.
+fn fold_and(sort: u64, x: usize, y: usize, left: Option<u64>, right: Option<u64>) -> Folded
+    ensures { (n : ℕ) → fold_is n result ≡ fold_and sort x y (constant_is left) (constant_is right) }
 {
-    let left_zeroes = is_const_zeroes(left);
-    let right_zeroes = is_const_zeroes(right);
-    let left_ones = is_const_ones(left, sort);
-    let right_ones = is_const_ones(right, sort);
-    if left_zeroes { // OR(zeroes, y) -> y
-        return Folded::Swap(y);
-    }
-    if right_zeroes { // OR(x, zeroes) -> x
-        return Folded::Swap(x);
-    }
-    if left_ones { // OR(ones, _) -> ones
-        return Folded::Swap(x);
-    }
-    if right_ones { // OR(_, ones) -> ones
-        return Folded::Swap(y);
-    }
-    let Constant::Imm(left_imm) = left else {
-        return Folded::Stays;
-    };
-    let Constant::Imm(right_imm) = right else {
-        return Folded::Stays;
-    };
-    Folded::Make(sort, operators::or(left_imm, right_imm))
+    fold_junction::<And>(sort, x, y, left, right)
+}
+
+// Zeros yield the other side, then ones win.
+fn fold_or(sort: u64, x: usize, y: usize, left: Option<u64>, right: Option<u64>) -> Folded
+    ensures { (n : ℕ) → fold_is n result ≡ fold_or sort x y (constant_is left) (constant_is right) }
+{
+    fold_junction::<Or>(sort, x, y, left, right)
 }
 
 // A bit becomes the shared one; another constant keeps the Not's sort.
-fn fold_not(n: usize, sort: u64, value: Constant) -> Folded
-    requires { n ≤ most_nodes }
-    ensures { fold_is result ≡ fold_not n sort (constant_is value) }
+fn fold_not(sort: u64, value: Option<u64>) -> Folded
+    ensures { (n : ℕ) → fold_is n result ≡ fold_not n sort (constant_is value) }
 {
-    let Constant::Imm(imm) = value else {
+    let Some(imm) = value else {
         return Folded::Stays;
     };
     if sort == NodeType::BIT {
         if imm == 0 {
-            return shared_constant(n, true);
+            return Folded::Shared(true);
         }
         if imm == 1 {
-            return shared_constant(n, false);
+            return Folded::Shared(false);
         }
     }
     Folded::Make(sort, complement_in(sort, imm))
 }
 
-fn fold_ext(sort: u64, value: Constant) -> Folded
-    ensures { fold_is result ≡ fold_ext sort (constant_is value) }
+fn fold_ext(sort: u64, value: Option<u64>) -> Folded
+    ensures { (n : ℕ) → fold_is n result ≡ fold_ext sort (constant_is value) }
 {
-    let Constant::Imm(imm) = value else {
+    let Some(imm) = value else {
         return Folded::Stays;
     };
     Folded::Make(sort, operators::ext(imm))
 }
 
-// What a node of two operands x and y folds to, among n nodes; left and right are their numbers.
+// What a node of two operands x and y folds to; left and right are their numbers. The four are no struct: words and Ult fold by two of them,
+// and it would be made at one place to be taken apart at the next.
 pub(crate) fn fold_two(
     how: Reading,
     rule: Rule,
-    n: usize,
     sort: u64,
     x: usize,
     y: usize,
-    left: Constant,
-    right: Constant,
+    left: Option<u64>,
+    right: Option<u64>,
 ) -> Folded
-    requires { n ≤ most_nodes }
-    ensures { fold_is result ≡ fold_two (reading_is how) rule n sort x y (constant_is left) (constant_is right) }
+    ensures { (n : ℕ) → fold_is n result ≡ fold_two (reading_is how) rule n sort x y (constant_is left) (constant_is right) }
 {
     match rule {
-        Rule::Word(f) => fold_any_binary(how, sort, left, right, f),
-        Rule::Ult => fold_ult(n, left, right),
-        Rule::Eq => fold_eq(n, x, y, left, right),
+        Rule::Word(f) => fold_any_binary(sort, left, right, |x, y| f.apply(how, x, y)),
+        Rule::Ult => fold_ult(left, right),
+        Rule::Eq => fold_eq(x, y, left, right),
         Rule::And => fold_and(sort, x, y, left, right),
         Rule::Or => fold_or(sort, x, y, left, right),
     }
 }
 
-// What a node of one operand folds to, among n nodes; value is the operand's number.
-pub(crate) fn fold_one(rule: Single, n: usize, sort: u64, value: Constant) -> Folded
-    requires { n ≤ most_nodes }
-    ensures { fold_is result ≡ fold_one rule n sort (constant_is value) }
+// What a node of one operand folds to; value is the operand's number.
+pub(crate) fn fold_one(rule: Single, sort: u64, value: Option<u64>) -> Folded
+    ensures { (n : ℕ) → fold_is n result ≡ fold_one rule n sort (constant_is value) }
 {
     match rule {
         Single::Ext => fold_ext(sort, value),
-        Single::Not => fold_not(n, sort, value),
+        Single::Not => fold_not(sort, value),
         Single::Stays => Folded::Stays,
     }
 }

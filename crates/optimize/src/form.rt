@@ -7,19 +7,21 @@ ghost use Rattle.optimize.specs.View.{constant_is};
 ghost use Rattle.optimize.specs.Process.{choice_is, form_of, form_at};
 
 use crate::buffers::{kind_at, word};
-use crate::fold::{Constant, Operator, Rule, Single};
+use crate::fold::{Operator, Rule, Single};
 use tables::node::{NodeKind, Row};
 
-// What a node of two operands does with them: it folds by its rule, or reads a memory at an address.
-#[derive(Clone, Copy)]
+// What a node of two operands does with them: it folds by its rule, or reads a memory at an address. It is no Option of a rule: that would not
+// say that the other kind is a Read.
+#[derive(Clone, Copy, Debug, PartialEq, Eq)]
 pub(crate) enum Pair {
     Folds(Rule),
     Reads,
 }
 
 // What a visit does with a node: it is a constant, an input, a state without init, or has one operand or two and what it does with them,
-// the three operands of a Write, the condition and branches of an Ite, or the state and the next value of a Next.
-#[derive(Clone, Copy)]
+// the three operands of a Write, the condition and branches of an Ite, or the state and the next value of a Next. It is an enum, not a function
+// for each kind: it is handed out, and a function may not be.
+#[derive(Clone, Copy, Debug, PartialEq, Eq)]
 pub(crate) enum Form {
     Constant,
     Given,
@@ -31,6 +33,7 @@ pub(crate) enum Form {
     Step,
 }
 
+#[tactic(auto, unfolding(crate::specs::Process::form_of))]
 fn form_of(kind: NodeKind, b: u64) -> Form
     ensures { result ≡ form_of (kind_is kind) b }
 {
@@ -74,25 +77,20 @@ pub(crate) fn form_at(given: &[u64], node: usize) -> Form
     form_of(kind_at(given, node), word(given, node, Row::B))
 }
 
-// Which branch of an Ite its condition chooses.
-#[derive(Clone, Copy)]
+// Which branch of an Ite its condition chooses. It is no Option of a bool: the rules name the three outcomes, and so does this.
+#[derive(Clone, Copy, Debug, PartialEq, Eq)]
 pub(crate) enum Choice {
     Left,
     Right,
     Undecided,
 }
 
-pub(crate) fn choice_of(condition: Constant) -> Choice
+pub(crate) fn choice_of(condition: Option<u64>) -> Choice
     ensures { choice_is result ≡ branch (constant_is condition) }
 {
-    let Constant::Imm(value) = condition else {
-        return Choice::Undecided;
-    };
-    if value == 1 {
-        return Choice::Left;
+    match condition {
+        Some(1) => Choice::Left,
+        Some(0) => Choice::Right,
+        _ => Choice::Undecided,
     }
-    if value == 0 {
-        return Choice::Right;
-    }
-    Choice::Undecided
 }

@@ -1,68 +1,52 @@
 // A State without init takes an input: the concrete times, in visiting order.
-ghost use Rattle.std.specs.Prelude.{◌≡◌, get_or, eqb};
-ghost use Rattle.optimize.specs.Laid.{Room};
-ghost use Rattle.optimize.specs.Counters.{walk_in, Going};
+ghost use Rattle.std.specs.Prelude.{◌≡◌, get_or, eqb, slice_get};
+ghost use Rattle.optimize.specs.Folder.{Keeps, RoomIn};
 ghost use Rattle.optimize.specs.Clauses.{Takes};
 
 use crate::buffers::{operand, word};
-use crate::call_words::Dumps;
-use crate::counters::{Counters, refuse, took_one};
+use crate::call::Dumps;
 use crate::fold::Folded;
-use crate::settle::settle;
+use crate::folder::ConstantFolder;
 use btor::node_type::NodeType;
 use tables::node::{Row, fits_sort};
 use tables::refusal::Refusal;
 
 // Whether a name starts with "memory-dump".
-fn is_dump(dumps: &[u8], name: usize) -> bool
+fn is_dump(dumps: &Dumps, name: usize) -> bool
     ensures { result ≡ eqb (get_or dumps.now name 0) 1 }
 {
-    if name < dumps.len() {
-        dumps[name] == 1
-    } else {
-        false
-    }
+    dumps.get(name).is_some_and(|mark| *mark == 1)
 }
 
-// A State without init takes the first of `inputs` that is left.
-pub(crate) fn take_input(
-    given: &[u64],
-    inputs: &[u64],
-    res: &mut [u64],
-    scratch: &mut [u64],
-    dumps: &Dumps,
-    counters: &mut Counters,
-    node: usize,
-) -> usize
-    requires room { Room given.now res.old scratch.old (walk_in counters.old) node }
-    requires going { Going counters.old }
-    ensures { Takes given res scratch counters result inputs dumps node }
+// The first of the inputs that is left.
+fn input_left(inputs: &[u64], taken: usize) -> Option<u64>
+    ensures { result ≡ slice_get inputs.now taken }
 {
-    let taken = counters[1];
-    if inputs.len() <= taken {
-        return settle(given, res, scratch, counters, node, Folded::Stays);
+    inputs.get(taken).copied()
+}
+
+impl ConstantFolder<'_> {
+    // A State without init takes the first of the inputs that is left.
+    pub(crate) fn take_input(&mut self, node: usize) -> Result<usize, Refusal>
+        requires { RoomIn self.old node }
+        ensures keeps { Keeps self.old self.new }
+        ensures takes { Takes self.old self.new result node }
+    {
+        let given = self.call.given;
+        let Some(value) = input_left(self.call.inputs, self.walk.taken) else {
+            return Ok(self.settle(node, Folded::Stays));
+        };
+        if is_dump(self.call.dumps, operand(given, node, Row::NAME)) {
+            return Ok(self.settle(node, Folded::Stays));
+        }
+        let sort = word(given, node, Row::SORT);
+        if sort == NodeType::MEMORY {
+            return Err(Refusal::MemoryInput(node));
+        }
+        if !fits_sort(sort, value) {
+            return Err(Refusal::InputTooWide(node));
+        }
+        self.walk.taken += 1;
+        Ok(self.settle(node, Folded::Make(sort, value)))
     }
-    let marks: &[u8] = dumps;
-    if is_dump(marks, operand(given, node, Row::NAME)) {
-        return settle(given, res, scratch, counters, node, Folded::Stays);
-    }
-    let sort = word(given, node, Row::SORT);
-    if sort == NodeType::MEMORY {
-        refuse(Refusal::MemoryInput(node), counters);
-        return node;
-    }
-    let value = inputs[taken];
-    if !fits_sort(sort, value) {
-        refuse(Refusal::InputTooWide(node), counters);
-        return node;
-    }
-    took_one(counters);
-    settle(
-        given,
-        res,
-        scratch,
-        counters,
-        node,
-        Folded::Make(sort, value),
-    )
 }

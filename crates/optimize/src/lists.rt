@@ -1,75 +1,33 @@
-// Lists of nodes in scratch, after the words of the walk, and the visits of such a list.
-ghost use Rattle.std.specs.Prelude.{◌+◌, ◌<◌, ◌≤◌, ◌≡◌, length, take, drop, set};
+// The lists of a model, and the visits of a list of nodes.
+ghost use Rattle.std.specs.Prelude.{◌<◌, OnOk};
 ghost use Rattle.rules.specs.Lists.{All};
-ghost use Rattle.optimize.specs.Bounds.{count_of};
-ghost use Rattle.optimize.specs.CallWords.{LaidBy};
-ghost use Rattle.optimize.specs.Lists.{entries_of};
-ghost use Rattle.optimize.specs.Clauses.{StaysLaid, WalksAll, WalksIn};
+ghost use Rattle.rules.specs.Lent.{was};
+ghost use Rattle.optimize.specs.Folder.{Keeps, LaidIn, count_in};
+ghost use Rattle.optimize.specs.Clauses.{WalksAll};
 
-use crate::buffers::number;
-use crate::call_words::{CallWords, Dumps};
-use crate::visit::visit_entry;
-use crate::walk::{Visited, Walk, Walked};
+use crate::folder::ConstantFolder;
+use tables::refusal::Refusal;
 
-// An entry of a list.
-pub(crate) fn put_entry(list: &mut [u64], at: usize, entry: u64)
-    requires { at < length list.old }
-    ensures { list.new ≡ set list.old at entry }
-{
-    list[at] = entry;
+// The sequentials, the initial bads and the sequential bads of a model: those given, or those kept.
+#[derive(Clone, Copy)]
+pub(crate) struct Lists<'a> {
+    pub(crate) sequentials: &'a [u64],
+    pub(crate) initial: &'a [u64],
+    pub(crate) later: &'a [u64],
 }
 
-// A visit whose walk has the words of scratch before `at`: the lists after them stay.
-pub(crate) fn visit_in(
-    given: &[u64],
-    res: &mut [u64],
-    scratch: &mut [u64],
-    dumps: &Dumps,
-    call: &CallWords,
-    at: usize,
-    walk: Walk,
-    node: usize,
-) -> Visited
-    requires at_in_bounds { (at ≤ length scratch.old) × (node < count_of given.now) }
-    requires laid_by { LaidBy given.now dumps.now call.now res.old (take at scratch.old) walk }
-    ensures walks_in { WalksIn given dumps call res scratch at walk result node }
-    ensures scratch_unchanged { drop at scratch.new ≡ drop at scratch.old }
-{
-    visit_entry(given, res, &mut scratch[0..at], dumps, call, walk, node)
-}
-
-// Visits the nodes of a list that stands in scratch from `at` on, in order; the walk has the words before it.
-pub(crate) fn visit_all(
-    given: &[u64],
-    res: &mut [u64],
-    scratch: &mut [u64],
-    dumps: &Dumps,
-    call: &CallWords,
-    at: usize,
-    count: usize,
-    walk: Walk,
-) -> Walked
-    requires count_in_bounds { at + count ≤ length scratch.old }
-    requires laid_by { LaidBy given.now dumps.now call.now res.old (take at scratch.old) walk }
-    requires all { All (λ k. k < count_of given.now) (entries_of scratch.old at count) }
-    ensures walks_all { WalksAll given dumps call res scratch at count walk result }
-    ensures stays_laid { StaysLaid given dumps call res scratch at result }
-    ensures scratch_unchanged { drop at scratch.new ≡ drop at scratch.old }
-{
-    let mut walk = walk;
-    let mut i = 0;
-    while i < count {
-        let node = number(scratch[at + i]);
-        let visited = visit_in(given, res, scratch, dumps, call, at, walk, node);
-        match visited {
-            Visited::Done(after, _) => {
-                walk = after;
-            }
-            Visited::Refused(refusal) => {
-                return Walked::Refused(refusal);
-            }
+impl ConstantFolder<'_> {
+    // Visits the nodes of a list, in order.
+    pub(crate) fn visit_all(&mut self, nodes: &[u64]) -> Result<(), Refusal>
+        requires laid { LaidIn self.old }
+        requires inside { All (λ k. k < count_in self.old) nodes.now }
+        ensures keeps { Keeps self.old self.new }
+        ensures walks_all { WalksAll self.old self.new (was nodes) result }
+        ensures laid { OnOk result (LaidIn self.new) }
+    {
+        for &node in nodes {
+            self.visit_entry(node as usize)?;
         }
-        i += 1;
+        Ok(())
     }
-    Walked::Done(walk)
 }

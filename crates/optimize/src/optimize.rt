@@ -1,22 +1,18 @@
 // The three entry points: a call is judged, folded, and both lent buffers are left as the rules say.
-ghost use Rattle.std.specs.Prelude.{◌≡◌, ℕ, length, replicate};
-ghost use Rattle.rules.specs.Limits.{house, mode_of};
+ghost use Rattle.std.specs.Prelude.{◌≡◌, ◌≤◌, length, replicate};
+ghost use Rattle.rules.specs.Limits.{house};
 ghost use Rattle.rules.specs.Call.{left, optimize_model_impl, optimize_model_with_solver, optimize_model_with_input};
 ghost use Rattle.tables.specs.SectionAnswers.{Inside};
-ghost use Rattle.tables.specs.Judging.{call_with, IsCut, judged_count, verdict_of};
-ghost use Rattle.tables.specs.declared.judge.Verdict.{Verdict};
-ghost use Rattle.tables.specs.declared.sections.Sections.{Sections};
-ghost use Rattle.optimize.specs.Runs.{Runs};
-ghost use Rattle.optimize.specs.Entries.{entry_is, answered, inputs_end, replies_end, result_left, InOrder, RunnableParts, model_parts, call_lent};
+ghost use Rattle.tables.specs.Judging.{call_with};
+ghost use Rattle.optimize.specs.Entries.{entry_is, answered, inputs_of, replies_of, result_left, InOrder, RunnableParts, RunsParts, call_lent};
 
-use crate::buffers::number;
-use crate::call_words::Dumps;
-use crate::result::clear;
+use crate::call::{Call, Dumps, Mode};
+use crate::lists::Lists;
 use crate::run::run;
-use crate::walk::Optimized;
-use tables::judge::Verdict;
+use tables::judge::judge;
 use tables::limits::{Limits, NAME_MARKS};
 use tables::names::mark_memory_dumps;
+use tables::refusal::Refusal;
 use tables::sections::{Part, Sections};
 
 // Which of the three functions is called.
@@ -27,93 +23,70 @@ pub(crate) enum Entry {
     WithInput,
 }
 
-// Where the inputs that an entry point brings end: `optimize_model_with_solver` brings none.
-fn inputs_end(entry: Entry, inputs: Part) -> usize
-    ensures { result ≡ inputs_end (entry_is entry) inputs }
+// The inputs that an entry point brings: `optimize_model_with_solver` brings none. This and the next differ in the entry that brings nothing; one
+// function of both would need it as a parameter and be no shorter.
+fn inputs_of(entry: Entry, words: &[u64], inputs: Part) -> &[u64]
+    requires { (inputs.start ≤ inputs.end) × (inputs.end ≤ length words.now) }
+    ensures { result.now ≡ inputs_of (entry_is entry) words.now inputs }
 {
     match entry {
-        Entry::WithSolver => inputs.start,
-        Entry::Impl => inputs.end,
-        Entry::WithInput => inputs.end,
+        Entry::WithSolver => &words[..0],
+        Entry::Impl | Entry::WithInput => &words[inputs.start..inputs.end],
     }
 }
 
-// Where the replies that an entry point brings end: `optimize_model_with_input` brings none.
-fn replies_end(entry: Entry, replies: Part) -> usize
-    ensures { result ≡ replies_end (entry_is entry) replies }
+// The replies that an entry point brings: `optimize_model_with_input` brings none.
+fn replies_of(entry: Entry, words: &[u64], replies: Part) -> &[u64]
+    requires { (replies.start ≤ replies.end) × (replies.end ≤ length words.now) }
+    ensures { result.now ≡ replies_of (entry_is entry) words.now replies }
 {
     match entry {
-        Entry::WithInput => replies.start,
-        Entry::Impl => replies.end,
-        Entry::WithSolver => replies.end,
+        Entry::WithInput => &words[..0],
+        Entry::Impl | Entry::WithSolver => &words[replies.start..replies.end],
     }
-}
-
-// A call judged by the house's limits.
-fn judge(mode: u64, words: &[u64], names: &[u8], result_room: usize, scratch_room: usize) -> Verdict
-    ensures result_value { verdict_of words.now result ≡ judged_count house mode words.now names.now result_room scratch_room }
-    ensures cut { (s : Sections) (k : ℕ) → result ≡ Verdict.Accepted s k → IsCut house words.now s }
-{
-    tables::judge::judge(
-        mode,
-        words,
-        names,
-        result_room,
-        scratch_room,
-        Limits::house(),
-    )
 }
 
 // Scratch is 0 after each call, and result after a refusal.
-fn finish_call(outcome: Optimized, res: &mut [u64], scratch: &mut [u64]) -> Optimized
+fn finish_call(
+    outcome: Result<usize, Refusal>,
+    res: &mut [u64],
+    scratch: &mut [u64],
+) -> Result<usize, Refusal>
     ensures value { result ≡ outcome }
     ensures res_after { res.new ≡ result_left outcome res.old }
     ensures scratch_after { scratch.new ≡ replicate (length scratch.old) 0 }
 {
-    clear(scratch);
-    match outcome {
-        Optimized::Done(words) => Optimized::Done(words),
-        Optimized::Refused(why) => {
-            clear(res);
-            Optimized::Refused(why)
-        }
+    scratch.fill(0);
+    if outcome.is_err() {
+        res.fill(0);
     }
+    outcome
 }
 
-// Folds the parts of cut words; inputs and replies end at the two places.
+// Folds the lists that stand in the cut words of a call.
 fn fold_parts(
-    words: &[u64],
-    dumps: &Dumps,
+    call: Call,
     sections: Sections,
-    inputs_to: usize,
-    replies_to: usize,
-    mode: u64,
     res: &mut [u64],
     scratch: &mut [u64],
-) -> Optimized
-    requires inside { Inside words.now sections }
-    requires runnable_parts { RunnableParts words.now dumps.now sections inputs_to replies_to (length res.old) (length scratch.old) }
-    ensures { Runs (model_parts words.now dumps.now sections inputs_to replies_to) (mode_of mode) (length res.old) result res.new }
+) -> Result<usize, Refusal>
+    requires inside { Inside call.given.now sections }
+    requires runnable_parts { RunnableParts call.given.now call.dumps.now sections call.inputs.now call.replies.now (length res.old) (length scratch.old) }
+    ensures { RunsParts call.entry sections (length res.old) result res.new }
 {
-    let sequentials = sections.sequentials.start;
-    let sequentials_to = sections.sequentials.end;
-    let initial = sections.initial.start;
-    let initial_to = sections.initial.end;
-    let later = sections.later.start;
-    let later_to = sections.later.end;
-    let inputs = sections.inputs.start;
-    let replies = sections.replies.start;
-    let call = [inputs, inputs_to, replies, replies_to, number(mode)];
-    run(
-        words,
-        &words[sequentials..sequentials_to],
-        &words[initial..initial_to],
-        &words[later..later_to],
-        res,
-        scratch,
-        dumps,
-        &call,
-    )
+    let words = call.given;
+    let Sections {
+        sequentials,
+        initial,
+        later,
+        ..
+    } = sections;
+    let lists = Lists {
+        sequentials: &words[sequentials.start..sequentials.end],
+        initial: &words[initial.start..initial.end],
+        later: &words[later.start..later.end],
+    };
+    run(call, lists, res, scratch)
 }
 
 // Folds what an entry point brings of a call that is in order.
@@ -125,19 +98,22 @@ fn fold_judged(
     sections: Sections,
     res: &mut [u64],
     scratch: &mut [u64],
-) -> Optimized
+) -> Result<usize, Refusal>
     requires { InOrder (call_with mode words.now names.now (length res.old) (length scratch.old)) sections }
     ensures result_value { answered result ≡ (left house (entry_is entry) (call_lent mode words names res scratch)).answer }
     ensures res_after { res.new ≡ (left house (entry_is entry) (call_lent mode words names res scratch)).result }
     ensures scratch_after { scratch.new ≡ (left house (entry_is entry) (call_lent mode words names res scratch)).scratch }
 {
-    let mut dumps: Dumps = [0u8; NAME_MARKS];
+    let mut dumps: Dumps = [0; NAME_MARKS];
     mark_memory_dumps(names, &mut dumps);
-    let inputs_to = inputs_end(entry, sections.inputs);
-    let replies_to = replies_end(entry, sections.replies);
-    let outcome = fold_parts(
-        words, &dumps, sections, inputs_to, replies_to, mode, res, scratch,
-    );
+    let call = Call {
+        given: words,
+        inputs: inputs_of(entry, words, sections.inputs),
+        replies: replies_of(entry, words, sections.replies),
+        dumps: &dumps,
+        mode: Mode::from(mode),
+    };
+    let outcome = fold_parts(call, sections, res, scratch);
     finish_call(outcome, res, scratch)
 }
 
@@ -149,16 +125,21 @@ fn optimize(
     names: &[u8],
     res: &mut [u64],
     scratch: &mut [u64],
-) -> Optimized
+) -> Result<usize, Refusal>
     ensures result_value { answered result ≡ (left house (entry_is entry) (call_lent mode words names res scratch)).answer }
     ensures res_after { res.new ≡ (left house (entry_is entry) (call_lent mode words names res scratch)).result }
     ensures scratch_after { scratch.new ≡ (left house (entry_is entry) (call_lent mode words names res scratch)).scratch }
 {
-    match judge(mode, words, names, res.len(), scratch.len()) {
-        Verdict::Accepted(sections, _) => {
-            fold_judged(entry, mode, words, names, sections, res, scratch)
-        }
-        Verdict::Refused(why) => finish_call(Optimized::Refused(why), res, scratch),
+    match judge(
+        mode,
+        words,
+        names,
+        res.len(),
+        scratch.len(),
+        Limits::house(),
+    ) {
+        Ok(accepted) => fold_judged(entry, mode, words, names, accepted.sections, res, scratch),
+        Err(refusal) => finish_call(Err(refusal), res, scratch),
     }
 }
 
@@ -169,7 +150,7 @@ pub fn optimize_model_impl(
     names: &[u8],
     res: &mut [u64],
     scratch: &mut [u64],
-) -> Optimized
+) -> Result<usize, Refusal>
     ensures result_value { answered result ≡ (optimize_model_impl mode words.now names.now (length res.old) (length scratch.old)).answer }
     ensures res_after { res.new ≡ (optimize_model_impl mode words.now names.now (length res.old) (length scratch.old)).result }
     ensures scratch_after { scratch.new ≡ (optimize_model_impl mode words.now names.now (length res.old) (length scratch.old)).scratch }
@@ -184,7 +165,7 @@ pub fn optimize_model_with_solver(
     names: &[u8],
     res: &mut [u64],
     scratch: &mut [u64],
-) -> Optimized
+) -> Result<usize, Refusal>
     ensures result_value { answered result ≡ (optimize_model_with_solver mode words.now names.now (length res.old) (length scratch.old)).answer }
     ensures res_after { res.new ≡ (optimize_model_with_solver mode words.now names.now (length res.old) (length scratch.old)).result }
     ensures scratch_after { scratch.new ≡ (optimize_model_with_solver mode words.now names.now (length res.old) (length scratch.old)).scratch }
@@ -198,7 +179,7 @@ pub fn optimize_model_with_input(
     names: &[u8],
     res: &mut [u64],
     scratch: &mut [u64],
-) -> Optimized
+) -> Result<usize, Refusal>
     ensures result_value { answered result ≡ (optimize_model_with_input words.now names.now (length res.old) (length scratch.old)).answer }
     ensures res_after { res.new ≡ (optimize_model_with_input words.now names.now (length res.old) (length scratch.old)).result }
     ensures scratch_after { scratch.new ≡ (optimize_model_with_input words.now names.now (length res.old) (length scratch.old)).scratch }

@@ -3,96 +3,49 @@
 ghost use Rattle.rules.specs.Fold.{swap};
 ghost use Rattle.rules.specs.Questions.{ask_bit, ask_or, equal, quiet};
 ghost use Rattle.optimize.specs.Process.{then_ask};
-ghost use Rattle.optimize.specs.Laid.{Room};
-ghost use Rattle.optimize.specs.Counters.{walk_in, Going};
+ghost use Rattle.optimize.specs.Folder.{Keeps, RoomIn};
 ghost use Rattle.optimize.specs.Clauses.{SettlesAsked};
 
-use crate::counters::Counters;
 use crate::fold::Folded;
-use crate::settle::settle_solved;
-use crate::smt_solver::{EQUAL, ask_bit, ask_or, then_ask};
+use crate::folder::ConstantFolder;
+use crate::smt_solver::Question;
+use tables::refusal::Refusal;
 
-// A node that is asked about as a bit: whether it is always true, then whether it is always false.
-pub(crate) fn solve_boolean_binary(
-    given: &[u64],
-    replies: &[u64],
-    res: &mut [u64],
-    scratch: &mut [u64],
-    counters: &mut Counters,
-    node: usize,
-) -> usize
-    requires room { Room given.now res.old scratch.old (walk_in counters.old) node }
-    requires going { Going counters.old }
-    ensures { SettlesAsked given res scratch counters result replies node (λ count n. ask_bit count n node quiet) }
-{
-    let solved = ask_bit(given, replies, scratch, counters, node);
-    settle_solved(given, res, scratch, counters, node, solved)
-}
+impl ConstantFolder<'_> {
+    // A node that is asked about as a bit: whether it is always true, then whether it is always false.
+    pub(crate) fn solve_boolean_binary(&mut self, node: usize) -> Result<usize, Refusal>
+        requires { RoomIn self.old node }
+        ensures keeps { Keeps self.old self.new }
+        ensures settles { SettlesAsked self.old self.new result node (λ count n. ask_bit count n node quiet) }
+    {
+        let solved = self.ask_bit(node)?;
+        Ok(self.settle(node, solved))
+    }
 
-// An Ite of sort 1: as a bit, then whether it equals its condition `x`.
-pub(crate) fn solve_ite_bit(
-    given: &[u64],
-    replies: &[u64],
-    res: &mut [u64],
-    scratch: &mut [u64],
-    counters: &mut Counters,
-    node: usize,
-    x: usize,
-) -> usize
-    requires room { Room given.now res.old scratch.old (walk_in counters.old) node }
-    requires going { Going counters.old }
-    ensures { SettlesAsked given res scratch counters result replies node (λ count n σ. then_ask count equal node x (swap x) (ask_bit count n node quiet σ)) }
-{
-    let bit = ask_bit(given, replies, scratch, counters, node);
-    let solved = then_ask(
-        given,
-        replies,
-        scratch,
-        counters,
-        bit,
-        EQUAL,
-        node,
-        x,
-        Folded::Swap(x),
-    );
-    settle_solved(given, res, scratch, counters, node, solved)
-}
+    // An Ite of sort 1: as a bit, then whether it equals its condition `x`.
+    pub(crate) fn solve_ite_bit(&mut self, node: usize, x: usize) -> Result<usize, Refusal>
+        requires { RoomIn self.old node }
+        ensures keeps { Keeps self.old self.new }
+        ensures settles { SettlesAsked self.old self.new result node (λ count n σ. then_ask count equal node x (swap x) (ask_bit count n node quiet σ)) }
+    {
+        let bit = self.ask_bit(node)?;
+        let solved = self.then_ask(bit, Question::Equal, node, x, Folded::Swap(x))?;
+        Ok(self.settle(node, solved))
+    }
 
-// An Ite of sort 2: whether it equals its left branch `y`, then its right branch `z`.
-pub(crate) fn solve_ite_word(
-    given: &[u64],
-    replies: &[u64],
-    res: &mut [u64],
-    scratch: &mut [u64],
-    counters: &mut Counters,
-    node: usize,
-    y: usize,
-    z: usize,
-) -> usize
-    requires room { Room given.now res.old scratch.old (walk_in counters.old) node }
-    requires going { Going counters.old }
-    ensures { SettlesAsked given res scratch counters result replies node (λ count n σ. then_ask count equal node z (swap z) (ask_or count equal node y (swap y) quiet σ)) }
-{
-    let left = ask_or(
-        given,
-        replies,
-        scratch,
-        counters,
-        EQUAL,
-        node,
-        y,
-        Folded::Swap(y),
-    );
-    let solved = then_ask(
-        given,
-        replies,
-        scratch,
-        counters,
-        left,
-        EQUAL,
-        node,
-        z,
-        Folded::Swap(z),
-    );
-    settle_solved(given, res, scratch, counters, node, solved)
+    // An Ite of sort 2: whether it equals its left branch `y`, then its right branch `z`.
+    pub(crate) fn solve_ite_word(
+        &mut self,
+        node: usize,
+        y: usize,
+        z: usize,
+    ) -> Result<usize, Refusal>
+        requires { RoomIn self.old node }
+        ensures keeps { Keeps self.old self.new }
+        ensures settles { SettlesAsked self.old self.new result node (λ count n σ. then_ask count equal node z (swap z) (ask_or count equal node y (swap y) quiet σ)) }
+    {
+        let left = self.ask_or(Question::Equal, node, y, Folded::Swap(y))?;
+        let solved = self.then_ask(left, Question::Equal, node, z, Folded::Swap(z))?;
+        Ok(self.settle(node, solved))
+    }
 }

@@ -1,57 +1,41 @@
-// The program: a model's text on standard input, the answer's text on standard output. Here bytes are moved; all else is in the libraries.
+// The program: a model's text on standard input, the answer's text on standard output. Here bytes are moved, in pieces and through arrays, as
+// nothing is to be allocated; all else is in the libraries.
 #![tactic(auto)]
 
 use std::io;
 use std::io::Read;
 use std::process::ExitCode;
-use text::reader::{Reader, feed, finish, start};
+use text::reader::{NUMBERS, ReadError, Reader};
 use text_answer::answer::{ROOM, answer};
 
-// What one read leaves, and whether there may be more.
-#[derive(Drop)]
-enum Turn {
-    More(Reader),
-    End(Reader),
-}
-
-fn read_some<R: Read>(
-    reader: Reader,
+// Reads to the input's end: how many numbers there are, or why none. No input has as many parts as turns are counted.
+fn read_all<R: Read>(
     input: &mut R,
-    numbers: &mut [u64; 4096],
-) -> io::Result<Turn> {
+    numbers: &mut [u64; NUMBERS],
+) -> io::Result<Result<usize, ReadError>> {
     let mut buffer = [0u8; 65536];
-    let count = input.read(&mut buffer)?;
-    if count == 0 {
-        return Ok(Turn::End(reader));
-    }
-    Ok(Turn::More(feed(reader, &buffer[..count], numbers)))
-}
-
-// Reads to the input's end. No input has as many parts as turns are counted.
-fn read_all<R: Read>(input: &mut R, numbers: &mut [u64; 4096]) -> io::Result<Reader> {
-    let mut reader = start();
+    let mut reader = Reader::new(numbers);
     for _ in 0..u64::MAX {
-        match read_some(reader, input, numbers)? {
-            Turn::More(next) => reader = next,
-            Turn::End(last) => return Ok(last),
+        let count = input.read(&mut buffer)?;
+        if count == 0 {
+            return Ok(reader.finish());
         }
+        reader.feed(&buffer[..count]);
     }
     Err(io::Error::other("too many reads"))
 }
 
-// Writes the front of the buffer.
-fn write_front(rt: &impl Print, out: &[u8; ROOM], size: usize) -> io::Result<()> {
-    if size > out.len() {
-        return Err(io::Error::other("no whole answer"));
-    }
-    rt.write_all(&out[..size])
-}
-
-fn print_answer(rt: &impl Print, reader: Reader, numbers: &mut [u64; 4096]) -> io::Result<()> {
-    let mut out = [0u8; ROOM];
-    let read = finish(reader, numbers);
+fn print_answer(
+    rt: &impl Print,
+    read: Result<usize, ReadError>,
+    numbers: &[u64; NUMBERS],
+) -> io::Result<()> {
+    let mut out = [0; ROOM];
     let size = answer(read, numbers, &mut out);
-    write_front(rt, &out, size)
+    let Some(front) = out.get(..size) else {
+        return Err(io::Error::other("no whole answer"));
+    };
+    rt.write_all(front)
 }
 
 // Says on standard error what failed and why.
@@ -61,12 +45,12 @@ fn fail(rt: &impl Eprint, what: &str, why: io::Error) -> ExitCode {
 }
 
 fn main(rt: HostRuntime) -> ExitCode {
-    let mut numbers = [0u64; 4096];
-    let reader = match read_all(&mut rt.stdin(), &mut numbers) {
-        Ok(reader) => reader,
+    let mut numbers = [0; NUMBERS];
+    let read = match read_all(&mut rt.stdin(), &mut numbers) {
+        Ok(read) => read,
         Err(why) => return fail(&rt, "standard input", why),
     };
-    match print_answer(&rt, reader, &mut numbers) {
+    match print_answer(&rt, read, &numbers) {
         Ok(()) => ExitCode::SUCCESS,
         Err(why) => fail(&rt, "standard output", why),
     }

@@ -4,11 +4,11 @@
 --     check_sequentials, check_bads     the lists, each entry 6 then 7
 --     check                           all of them in order: nodes rising, then lists in order
 -- Assumes nothing.
-use Rattle.std.specs.Prelude.{ℕ, suc, Bool, true, false, cond, ◌&&◌, ◌||◌, not, List, [], ◌∷◌, ◌++◌, length, ltb, leb, eqb}
+use Rattle.std.specs.Prelude.{ℕ, suc, Bool, true, false, cond, ◌&&◌, ◌||◌, not, List, [], ◌∷◌, ◌++◌, length, ltb, leb, eqb, Result, Ok, Err}
 use Rattle.std.proofs.Math.Option.{Option, none}
 use Rattle.btor.specs.Sorts.{sort_of, bit_code, word_code, memory_code}
-use Rattle.btor.specs.declared.node_type.CodedSort.{CodedSort}
-use Rattle.btor.specs.declared.node_type.CodedSort.TheVariants.{Known, Unknown}
+use Rattle.btor.specs.declared.node_type.NodeType.{NodeType}
+use Rattle.btor.specs.declared.node_type.UnknownSort.{UnknownSort}
 use Rattle.rules.specs.Lists.{all_true, every, member}
 use Rattle.rules.specs.Refusal.{Refusal, unless, first_of}
 use Rattle.rules.specs.Table.{Kind, Const, Read, Write, Word, Ult, Ext, Ite, Eq, And, Or, Not, State, Next, Input, Bad, kinds, Row, Node, decode, is, node_at, operands, fits}
@@ -18,9 +18,9 @@ use Rattle.rules.specs.Model.{Model}
 abbrev pub known_kind : ℕ → Bool
 known_kind k = ltb 0 k && leb k (length kinds)
 
-abbrev pub is_known : CodedSort → Bool
-is_known (Known s) = true
-is_known Unknown = false
+abbrev pub is_known : Result NodeType UnknownSort → Bool
+is_known (Ok s) = true
+is_known (Err e) = false
 
 abbrev pub known_sort : ℕ → Bool
 known_sort s = is_known (sort_of s)

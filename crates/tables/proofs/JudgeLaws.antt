@@ -11,12 +11,13 @@ use lib.ListN.{length, get_or, take, drop, get_or-map, get_or-eq_default, drop_o
 use lib.Seq.{get_or-drop, get_or-take, drop-cons}
 use Rattle.rules.specs.Refusal.{Refusal, first_of}
 use Rattle.rules.specs.Table.{Row, Node, row_width, decode, unknown, node_at}
-use Rattle.rules.specs.Check.{rule3, rule4, rule5, check_node, check_nodes}
+use Rattle.rules.specs.Check.{known_kind, check_node, check_nodes}
 use Rattle.rules.specs.Sections.{row_of, word_of}
 use Rattle.rules.proofs.Sections.{row-of, rows-length}
-use Rattle.tables.specs.NodeAnswers.{row_unknown, row_at, HasRow}
+use Rattle.tables.specs.NodeAnswers.{row_unknown, row_at}
 use Rattle.tables.specs.SectionAnswers.{words_in, Inside}
-use Rattle.tables.specs.Judging.{rows_in, table_in, IsChecked}
+use Rattle.tables.specs.FormAnswers.{first_broken}
+use Rattle.tables.specs.Judging.{rows_in, table_in}
 use Rattle.tables.specs.declared.sections.Sections.{Sections}
 
 -- ---- rows in cut words
@@ -51,29 +52,13 @@ module _ (ws : List ℕ) (s : Sections) (h : Inside ws s) where
       get_or-map decode (rows_in ws s) k row_unknown
       ∙ ap decode (get_or-eq_default (rows_in ws s) row_unknown (omega (arith, rows-count ws s)))
 
-  -- what rules 3, 4 and 5 say of a row is what they say of the node in the table
-  pub node_checked : (names k : ℕ) → k < s.nodes.count → (r : Row) → r ≡ row_at ws k → {o : Option Refusal} → IsChecked ws names k r o
-      → o ≡ check_node names (table_in ws s) k (get_or (rows_in ws s) k row_unknown)
-  node_checked names k l r e f =
-      f (table_in ws s) (λ x g. node_in x (omega arith)) ∙ ap (check_node names (table_in ws s) k) (e ∙ sym (row_in k l))
+-- ---- one node, whose kind is unknown or known
+pub kind_unknown : (names : ℕ) (t : List Node) (k : ℕ) (r : Row) → known_kind r.code ≡ false → some (record { reason = 3; section = 1; position = k }) ≡ check_node names t k r
+kind_unknown names t k r h = rw h
 
-  pub words_enough : (k : ℕ) → k < s.nodes.count → HasRow ws k
-  words_enough k l = omega (arith, h.nodes.starts, h.nodes.ends, h.nodes.within)
-
--- ---- one node: the first rule that fails
-module _ (names : ℕ) (t : List Node) (k : ℕ) (r : Row) where
-  pub fails_3 : rule3 names r ≡ false → check_node names t k r ≡ some (record { reason = 3; section = 1; position = k })
-  fails_3 h = rw h
-
-  pub fails_4 : rule3 names r ≡ true → rule4 k (decode r) ≡ false → check_node names t k r ≡ some (record { reason = 4; section = 1; position = k })
-  fails_4 h g = rw (h, g)
-
-  pub fails_5 : rule3 names r ≡ true → rule4 k (decode r) ≡ true → rule5 t (decode r) ≡ false
-      → check_node names t k r ≡ some (record { reason = 5; section = 1; position = k })
-  fails_5 h g f = rw (h, g, f)
-
-  pub fails_none : rule3 names r ≡ true → rule4 k (decode r) ≡ true → rule5 t (decode r) ≡ true → check_node names t k r ≡ none
-  fails_none h g f = rw (h, g, f)
+module _ (names : ℕ) (t : List Node) (k : ℕ) (r : Row) (nd : Node) (h : (known_kind r.code ≡ true) × (nd ≡ decode r)) where
+  pub broken_is : first_broken names t k nd ≡ check_node names t k r
+  broken_is = rw (h.0, h.1)
 
 -- the first of a list of one
 pub alone : (o : Option Refusal) → first_of (none ∷ o ∷ []) ≡ o

@@ -1,12 +1,12 @@
--- Laws for the proofs of judge.rt: the first of four refusals, and a call refused at each stage or judged.
+-- Laws for the proofs of judge.rt: a call refused at each stage or judged.
 -- Assumes nothing.
 use Prim.Native.Nat.{ℕ}
-use mathlib.Core.Path.{◌≡◌, refl, sym, ap, subst}
+use mathlib.Core.Path.{◌≡◌, refl, sym, ap}
 use mathlib.Core.Option.{Option, none, some}
-use mathlib.Core.List.{List, [], ◌∷◌}
+use mathlib.Core.List.{List, []}
 use native.Mathlib.Omega.{arith}
 use lib.ListN.{length}
-use Rattle.rules.specs.Refusal.{Refusal, Out, refused, done, first_of, unless_refused}
+use Rattle.rules.specs.Refusal.{Refusal, Out, refused, done, unless_refused}
 use Rattle.rules.specs.Model.{Mode}
 use Rattle.rules.specs.Limits.{Limits}
 use Rattle.rules.specs.Check.{check}
@@ -16,38 +16,11 @@ use Rattle.rules.specs.Names.{names_of}
 use Rattle.rules.specs.Call.{judge_mode, judge_room, need_of, model_from, judged}
 use Rattle.tables.specs.SectionAnswers.{sections_in, Inside}
 use Rattle.tables.specs.NameAnswers.{counted, names_count}
-use Rattle.tables.specs.Judging.{rows_in, model_in, refusal_in, Counted, room_of, IsCut, judged_count}
+use Rattle.tables.specs.Judging.{rows_in, model_in, refusal_in, Counted, room_of, judged_count}
 use Rattle.tables.specs.declared.sections.Sections.{Sections}
-use Rattle.tables.specs.declared.refusal.Refusal as why
-use Rattle.tables.specs.declared.judge.Verdict.{Verdict}
 use Rattle.tables.proofs.JudgeLaws.{rows-count}
 use Rattle.tables.proofs.ListLaws.{list_count}
 use Rattle.tables.proofs.NameLaws.{counted-refused}
-
--- ---- the places of an accepted call
-pub not-accepted : {A : Type 0} (r : why.Refusal) (s : Sections) (k : ℕ) → Verdict.Refused r ≡ Verdict.Accepted s k → A
-not-accepted r s k e = let z : ◌≡◌ {A = ℕ} 0 1 = cc in absurd (omega arith)
-
-pub accepted-cut : (limits : Limits) (ws : List ℕ) (q s : Sections) (i k : ℕ) → Verdict.Accepted q i ≡ Verdict.Accepted s k → IsCut limits ws q → IsCut limits ws s
-accepted-cut limits ws q s i k e = subst (λ (x : Sections). IsCut limits ws x) cc
-
--- ---- the first of four
-module _ (a b c d : Option Refusal) (r : Refusal) where
-  pub first_1 : a ≡ some r → some r ≡ first_of (a ∷ b ∷ c ∷ d ∷ [])
-  first_1 h = rw h
-
-  pub first_2 : a ≡ none → b ≡ some r → some r ≡ first_of (a ∷ b ∷ c ∷ d ∷ [])
-  first_2 h g = rw (h, g)
-
-  pub first_3 : a ≡ none → b ≡ none → c ≡ some r → some r ≡ first_of (a ∷ b ∷ c ∷ d ∷ [])
-  first_3 h g f = rw (h, g, f)
-
-pub first_4 : (a b c d : Option Refusal) → a ≡ none → b ≡ none → c ≡ none → d ≡ first_of (a ∷ b ∷ c ∷ d ∷ [])
-first_4 a b c d h g f = rw (h, g, f) (alone d)
-  where
-    alone : (o : Option Refusal) → o ≡ first_of (none ∷ none ∷ none ∷ o ∷ [])
-    alone none = refl
-    alone (some r) = refl
 
 -- ---- what the room rule counts
 module _ (ws : List ℕ) (s : Sections) (h : Inside ws s) where
@@ -128,10 +101,10 @@ module _ (names : ℕ) (ws : List ℕ) (s : Sections) where
   unfolding check
   table_stops r e = ap (λ (o : Option Refusal). unless_refused o (done (sections_in ws s))) (sym e)
 
-  pub table-passes : check names (rows_in ws s) (model_in ws s) ≡ none
+  pub table_passes : check names (rows_in ws s) (model_in ws s) ≡ none
       → done (sections_in ws s) ≡ unless_refused (check names (rows_in ws s) (model_from [] (sections_in ws s))) (done (sections_in ws s))
   unfolding check
-  table-passes e = ap (λ (o : Option Refusal). unless_refused o (done (sections_in ws s))) (sym e)
+  table_passes e = ap (λ (o : Option Refusal). unless_refused o (done (sections_in ws s))) (sym e)
 
 -- counts of 32 bits
 pub counts : (ws : List ℕ) (s : Sections) → Inside ws s → Counted s

@@ -1,7 +1,6 @@
 pub mod SectionLaws
 pub mod NodeLaws
 pub mod JudgeLaws
-pub mod ToldLaws
 pub mod FormLaws
 pub mod ListLaws
 pub mod NameLaws

@@ -1,27 +1,26 @@
 -- Laws for the proofs of lists.rt: entries by their rows, lists at their places in cut words, and judging one entry after the other.
 -- Assumes nothing.
-use Prim.Native.Nat.{ℕ, zero, suc, ◌+◌, ◌-◌, ◌*◌, ◌<◌, ◌≤◌}
+use Prim.Native.Nat.{ℕ, zero, suc, ◌+◌, ◌*◌, ◌<◌, ◌≤◌}
 use mathlib.Core.Path.{◌≡◌, refl, sym, ap, ap₂, ◌∙◌}
-use mathlib.Core.Bool.{Bool, true, false, ◌&&◌, ◌||◌, not, and-true}
+use mathlib.Core.Bool.{Bool, true, false, cond, ◌||◌, not, or-false}
 use mathlib.Core.Option.{Option, none, some}
-use mathlib.Core.List.{List, [], ◌∷◌, map}
+use mathlib.Core.List.{List, [], ◌∷◌, ◌++◌, map}
 use native.Mathlib.Omega.{arith}
 use native.Mathlib.Numerals.{add-one}
 use lib.Dec.{ltb, eqb}
-use lib.ListN.{length, length-set, get_or, set, drop, replicate, length-take, length-drop, drop_of_length-le}
-use lib.Seq.{get_or-drop, get_or-take, drop-cons, get_or-set_same, get_or-set_other}
-use borrow.Author.Tests.{eqb-true, eqb-false, eq-eqb, ne_eqb}
+use Rattle.std.specs.List.{list_any, position_or_len}
+use lib.ListN.{length, length-set, get_or, set, take, drop, replicate, length-take, length-drop, drop_of_length-le}
+use lib.Seq.{take-suc, drop-cons, get_or-set_same, get_or-set_other}
+use Rattle.std.proofs.lemmas.Bool.Decides.{nat_tests}
+use borrow.Author.Tests.{eqb-true, eqb-false}
 use Rattle.rules.specs.Refusal.{Refusal, unless, first_of}
 use Rattle.rules.specs.Lists.{all_true, member}
-use Rattle.rules.specs.Table.{Node, decode, kind_code, node_at}
+use Rattle.rules.specs.Table.{Node, decode, node_at}
 use Rattle.rules.specs.Check.{sequential_entry, bad_entry, check_sequentials, check_bads}
-use Rattle.tables.specs.NodeAnswers.{row_is}
 use Rattle.tables.specs.SectionAnswers.{words_in, Lies}
 use Rattle.tables.specs.Judging.{rows_in, table_in, states_before, Marks}
-use Rattle.tables.specs.declared.node.Row as node
 use Rattle.tables.specs.declared.sections.Part.{Part}
 use Rattle.tables.specs.declared.sections.Sections.{Sections}
-use Rattle.tables.proofs.NodeLaws.{is_code}
 use Rattle.tables.proofs.JudgeLaws.{alone, rows-count}
 
 map-length : {A B : Type 0} (f : A → B) (xs : List A) → length (map f xs) ≡ length xs
@@ -33,52 +32,10 @@ module _ (ws : List ℕ) (s : Sections) where
   pub table-count : length (table_in ws s) ≡ s.nodes.count
   table-count = map-length decode (rows_in ws s) ∙ rows-count ws s
 
-  pub bad-entry : (e : ℕ) (r : node.Row) → decode (row_is r) ≡ node_at (table_in ws s) e
-      → (ltb e s.nodes.count && eqb r.code 22) ≡ all_true (bad_entry (table_in ws s) e)
-  bad-entry e r q =
-      ap₂ ◌&&◌ (ap (ltb e) (sym table-count))
-      (sym (is_code 22 refl refl r.code) ∙ ap (λ (n : Node). eqb (kind_code n.kind) 22) q ∙ sym (and-true _))
-
-  pub sequential-entry : (e : ℕ) (r z : node.Row) → decode (row_is r) ≡ node_at (table_in ws s) e → decode (row_is z) ≡ node_at (table_in ws s) r.a
-      → (ltb e s.nodes.count && (eqb r.code 20 && eqb z.b 1)) ≡ all_true (sequential_entry (table_in ws s) e)
-  sequential-entry e r z q o =
-      ap₂ ◌&&◌ (ap (ltb e) (sym table-count))
-      (ap₂ ◌&&◌ (sym (is_code 20 refl refl r.code) ∙ ap (λ (n : Node). eqb (kind_code n.kind) 20) q)
-      (ap (λ (n : Node). eqb n.b 1) (o ∙ ap (λ (n : Node). node_at (table_in ws s) n.a) q) ∙ sym (and-true _)))
-
 -- ---- a list in the words
 module _ (ws : List ℕ) (at : ℕ) (p : Part) (l : Lies ws at 1 p) where
   pub list_count : length (words_in ws 1 p) ≡ p.count
   list_count = length-take (1 * p.count) (drop p.start ws) ∙ omega (arith, length-drop p.start ws, l.ends, l.within)
-
-  pub list_entry : (i : ℕ) → i < p.count → get_or (words_in ws 1 p) i 0 ≡ get_or ws (p.start + i) 0
-  list_entry i h = get_or-take (1 * p.count) (drop p.start ws) i 0 (omega arith) ∙ get_or-drop p.start ws i 0
-
-  pub list_inside : (i : ℕ) → i < p.count → p.start + i < length ws
-  list_inside i h = omega (arith, l.ends, l.within)
-
--- ---- bads, entry after entry
-module _ (t : List Node) (section : ℕ) (bs : List ℕ) where
-  abbrev bad_at : ℕ → Bool
-  bad_at k = all_true (bad_entry t (get_or bs k 0))
-
-  bads-step : (k : ℕ) → k < length bs
-      → check_bads t section k (drop k bs) ≡ first_of (unless (bad_at k) 6 section k ∷ check_bads t section (k + 1) (drop (k + 1) bs) ∷ [])
-  unfolding check_bads
-  bads-step k h =
-      ap (check_bads t section k) (drop-cons bs k 0 h)
-      ∙ ap (λ (m : ℕ). first_of (unless (bad_at k) 6 section k ∷ check_bads t section m (drop m bs) ∷ [])) (sym (add-one k))
-
-  pub bads_pass : (k : ℕ) → k < length bs → bad_at k ≡ true → check_bads t section (k + 1) (drop (k + 1) bs) ≡ check_bads t section k (drop k bs)
-  bads_pass k h e = sym (bads-step k h ∙ ap (λ (b : Bool). first_of (unless b 6 section k ∷ check_bads t section (k + 1) (drop (k + 1) bs) ∷ [])) e ∙ alone _)
-
-  pub bads-stop : (k : ℕ) → k < length bs → bad_at k ≡ false
-      → some (record { reason = 6; section = section; position = k }) ≡ check_bads t section k (drop k bs)
-  bads-stop k h e = sym (bads-step k h ∙ ap (λ (b : Bool). first_of (unless b 6 section k ∷ check_bads t section (k + 1) (drop (k + 1) bs) ∷ [])) e)
-
-  pub bads_end : (k : ℕ) → length bs ≤ k → check_bads t section k (drop k bs) ≡ none
-  unfolding check_bads
-  bads_end k h = ap (check_bads t section k) (drop_of_length-le bs h)
 
 -- ---- sequentials, entry after entry
 module _ (t : List Node) (ss : List ℕ) where
@@ -121,36 +78,70 @@ module _ (t : List Node) (ss : List ℕ) where
   unfolding states_before
   states-more k x = rw (add-one k)
 
-  states-last : (k x : ℕ) → 0 < k → member x (states_before t ss k) ≡ (eqb x (state_at (k - 1)) || member x (states_before t ss (k - 1)))
-  states-last k x h = let e : k ≡ k - 1 + 1 = omega arith in ap (λ (m : ℕ). member x (states_before t ss m)) e ∙ states-more (k - 1) x
-
-  pub states-hit : (k x : ℕ) → 0 < k → x ≡ state_at (k - 1) → member x (states_before t ss k) ≡ true
-  states-hit k x h e = states-last k x h ∙ ap (λ (b : Bool). b || member x (states_before t ss (k - 1))) (eq-eqb x (state_at (k - 1)) e)
-
-  pub states_miss : (k x : ℕ) → 0 < k → (x ≡ state_at (k - 1) → ⊥) → member x (states_before t ss k) ≡ member x (states_before t ss (k - 1))
-  states_miss k x h d = states-last k x h ∙ ap (λ (b : Bool). b || member x (states_before t ss (k - 1))) (ne_eqb x (state_at (k - 1)) d)
-
-  pub states-none : (k x : ℕ) → k ≡ 0 → member x (states_before t ss k) ≡ false
-  unfolding states_before
-  states-none k x e = ap (λ (m : ℕ). member x (states_before t ss m)) e
-
-  pub marked : (k : ℕ) (marks : List ℕ) (state : ℕ) → state ≡ state_at k → Marks (states_before t ss k) marks → Marks (states_before t ss (k + 1)) (set marks state 1)
+  pub marked : (k : ℕ) (marks : List Bool) (state : ℕ) → state ≡ state_at k → Marks (states_before t ss k) marks → Marks (states_before t ss (k + 1)) (set marks state true)
   marked k marks state e g x h = go (eqb x state) refl ∙ ap (λ (y : ℕ). eqb x y || member x (states_before t ss k)) e ∙ sym (states-more k x)
     where
       inside : x < length marks
-      inside = omega (arith, length-set marks state 1)
+      inside = omega (arith, length-set marks state true)
 
-      go : (b : Bool) → eqb x state ≡ b → eqb (get_or (set marks state 1) x 0) 1 ≡ (eqb x state || member x (states_before t ss k))
-      go true q = let same = eqb-true x state q in rw (q, same, get_or-set_same marks state 1 0 (omega (arith, inside)))
-      go false q = rw (q, get_or-set_other marks state x 1 0 (eqb-false x state q)) (g x inside)
+      go : (b : Bool) → eqb x state ≡ b → get_or (set marks state true) x false ≡ (eqb x state || member x (states_before t ss k))
+      go true q = let same = eqb-true x state q in rw (q, same, get_or-set_same marks state true false (omega (arith, inside)))
+      go false q = rw (q, get_or-set_other marks state x true false (eqb-false x state q)) (g x inside)
 
--- words that are all 0 read as 0
-pub zeros : (n k : ℕ) → ◌≡◌ {A = ℕ} (get_or (replicate n 0) k 0) 0
-zeros zero k = refl
-zeros (suc n) zero = refl
-zeros (suc n) (suc k) = zeros n k
+-- what is replicated reads as itself
+pub replicated : {A : Type 0} (d : A) (n k : ℕ) → get_or (replicate n d) k d ≡ d
+replicated d zero k = refl
+replicated d (suc n) zero = refl
+replicated d (suc n) (suc k) = replicated d n k
 
--- at first no state is listed, and every mark is 0
-pub unmarked : (t : List Node) (ss marks : List ℕ) → ((k : ℕ) → get_or marks k 0 ≡ 0) → Marks (states_before t ss 0) marks
+-- at first no state is listed, and no mark is set
+pub unmarked : (t : List Node) (ss : List ℕ) (marks : List Bool) → ((k : ℕ) → get_or marks k false ≡ false) → Marks (states_before t ss 0) marks
 unfolding states_before
-unmarked t ss marks z x h = ap (λ (m : ℕ). eqb m 1) (z x)
+unmarked t ss marks z x h = z x
+
+-- the states before a place, as the library looks for them
+module _ (t : List Node) (ss : List ℕ) (x : ℕ) where
+  abbrev hit : ℕ → Bool
+  hit e = eqb x (node_at t e).a
+
+  any_joined : (xs ys : List ℕ) → list_any hit (xs ++ ys) ≡ (list_any hit ys || list_any hit xs)
+  any_joined [] ys = sym (or-false (list_any hit ys))
+  any_joined (y ∷ xs) ys = ap (λ b. hit y || b) (any_joined xs ys) ∙ swapped (hit y) (list_any hit ys) (list_any hit xs)
+    where
+      swapped : (a b c : Bool) → (a || (b || c)) ≡ (b || (a || c))
+      swapped true true c = refl
+      swapped true false c = refl
+      swapped false b c = refl
+
+  pub listed_is : (k : ℕ) → k ≤ length ss → list_any hit (take k ss) ≡ member x (states_before t ss k)
+  unfolding states_before
+  listed_is zero h = refl
+  listed_is (suc k) h =
+      ap (list_any hit) (take-suc ss k 0 (omega arith))
+      ∙ any_joined (take k ss) (get_or ss k 0 ∷ [])
+      ∙ ap₂ (λ a b. a || b) (or-false (hit (get_or ss k 0))) (listed_is k (omega arith))
+
+-- bads, by the first entry that is none
+module _ (t : List Node) (section : ℕ) where
+  abbrev pub no_bad : ℕ → Bool
+  no_bad b = not (all_true (bad_entry t b))
+
+  abbrev pub found_at : ℕ → List ℕ → Option Refusal
+  found_at k bs = cond (ltb (position_or_len no_bad bs) (length bs)) (some (record { reason = 6; section = section; position = k + position_or_len no_bad bs })) none
+
+  -- an entry more, and what is found among the later ones
+  abbrev found : Bool → ℕ → Option Refusal
+  found b place = cond b (some (record { reason = 6; section = section; position = place })) none
+
+  found_later : (k p n : ℕ) → found (ltb p n) (suc k + p) ≡ found (ltb (1 + p) (suc n)) (k + (1 + p))
+  found_later k p n = ap₂ found (grind (arith, nat_tests)) (omega arith)
+
+  pub bads_by : (k : ℕ) (bs : List ℕ) → check_bads t section k bs ≡ found_at k bs
+  unfolding check_bads
+  bads_by k [] = refl
+  bads_by k (b ∷ bs) = go (all_true (bad_entry t b)) refl (bads_by (suc k) bs)
+    where
+      go : (here : Bool) → all_true (bad_entry t b) ≡ here → check_bads t section (suc k) bs ≡ found_at (suc k) bs
+          → first_of (unless (all_true (bad_entry t b)) 6 section k ∷ check_bads t section (suc k) bs ∷ []) ≡ found_at k (b ∷ bs)
+      go true e f = rw e (alone (check_bads t section (suc k) bs) ∙ f ∙ found_later k (position_or_len no_bad bs) (length bs))
+      go false e f = rw e (let z : k + 0 ≡ k = omega arith in let y : ltb 0 (suc (length bs)) ≡ true = grind (arith, nat_tests) in ap₂ found (sym y) (sym z))

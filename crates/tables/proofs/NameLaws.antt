@@ -3,12 +3,13 @@
 --     read_cuts          one name read is one step of cutting
 --     count-.., judged-..   how many names, one name after the other
 --     place-.., name-inside   where name k stands, and that it lies within the bytes
+--     prefix_is          a prefix as the library has it
 --     dump-place, marked-..   "memory-dump", for one name and for all
 --     accepted-..        the answers on bytes that are not refused, in the rules' names
 -- Assumes nothing.
 use Prim.Native.Nat.{ℕ, zero, suc, ◌+◌, ◌-◌, ◌*◌, ◌<◌, ◌≤◌}
-use mathlib.Core.Path.{◌≡◌, refl, sym, ap, ap₂, ◌∙◌, subst}
-use mathlib.Core.Bool.{Bool, true, false}
+use mathlib.Core.Path.{◌≡◌, refl, sym, ap, ap₂, ◌∙◌}
+use mathlib.Core.Bool.{Bool, true, false, ◌&&◌}
 use mathlib.Core.Option.{Option, none, some}
 use mathlib.Core.List.{List, [], ◌∷◌, ◌++◌}
 use native.Mathlib.Omega.{arith}
@@ -16,9 +17,10 @@ use native.Mathlib.Nat.{add-zero}
 use native.Mathlib.Numerals.{add-one}
 use lib.ListN.{length, get_or, take, drop, set, length-append, length-drop, drop_of_length-le}
 use lib.Seq.{drop-cons, drop-drop, drop-append_seam, get_or-drop, get_or-set_same, get_or-set_other}
-use lib.Dec.{ltb}
-use borrow.Author.Tests.{ltb-true, ltb-false, eq-eqb, ne_eqb}
+use lib.Dec.{ltb, eqb}
+use borrow.Author.Tests.{ltb-true, ltb-false}
 use borrow.Author.Count.{below_more}
+use Rattle.std.proofs.lemmas.Bool.Decides.{nat_tests}
 use Rattle.btor.specs.Operators.{bit}
 use Rattle.rules.specs.Refusal.{Refusal, Out, refused, done, refuse, ◌>>=◌}
 use Rattle.rules.specs.Limits.{Limits}
@@ -28,6 +30,9 @@ use Rattle.rules.specs.Label.{at, named}
 use Rattle.rules.proofs.Label.{named_in, named_past}
 use Rattle.rules.proofs.Sections.{never, same-done}
 use Rattle.rules.proofs.Names.{name-over, name-short, name-whole, name_missing, names-over, names-within, names_done, name-at}
+use Rattle.std.specs.List as list
+use Rattle.std.specs.Prelude.{nat_eq}
+use Rattle.std.specs.Int.{from_bool}
 use Rattle.tables.specs.NameAnswers.{counted, names_count, read_at, place_if, place_among, place_of, dump_among, is_dump, dump_mark}
 
 -- a part of the bytes
@@ -61,11 +66,6 @@ unfolding verdict
 judged-more count name (refused r) = refl
 judged-more count name (done p) = verdict-left count (name ∷ p.0) p.0 p.1
 
--- a name that was read lies within the bytes
-InsideRead : List ℕ → Out (ℕ × ℕ) → Type 0
-InsideRead bs (refused r) = Unit
-InsideRead bs (done q) = q.0 + q.1 ≤ length bs
-
 -- ---- the walk from length byte to length byte
 pub place_here : (bs : List ℕ) (at : ℕ) → length_place 0 bs at ≡ at
 unfolding length_place
@@ -76,24 +76,20 @@ unfolding length_place
 place-next zero bs at h = let o : ⊥ = omega arith in absurd o
 place-next (suc k) bs at h = let p : suc k - 1 ≡ k = omega arith in rw p
 
--- ---- a prefix, byte by byte
-pub prefix_all : (prefix name : List ℕ) (i : ℕ) → length prefix ≤ i → starts_with (drop i prefix) (drop i name) ≡ true
+-- a test as a number, as the library has it
+pub bit_is : (b : Bool) → from_bool b ≡ bit b
+bit_is true = refl
+bit_is false = refl
+
+-- ---- a prefix, byte by byte, as the library has it
+pub prefix_is : (name prefix : List ℕ) → list.starts_with nat_eq name prefix ≡ starts_with prefix name
 unfolding starts_with
-prefix_all prefix name i h = ap (λ p. starts_with p (drop i name)) (drop_of_length-le prefix h)
-
-module _ (prefix name : List ℕ) (i : ℕ) (more : i < length prefix) where
-  pub prefix_longer : length name ≤ i → starts_with (drop i prefix) (drop i name) ≡ false
-  unfolding starts_with
-  prefix_longer h = ap₂ starts_with (drop-cons prefix i 0 more) (drop_of_length-le name h)
-
-  module _ (inside : i < length name) where
-    pub prefix_differs : (get_or name i 0 ≡ get_or prefix i 0 → ⊥) → starts_with (drop i prefix) (drop i name) ≡ false
-    unfolding starts_with
-    prefix_differs h = ap₂ starts_with (drop-cons prefix i 0 more) (drop-cons name i 0 inside) ∙ rw (ne_eqb (get_or name i 0) (get_or prefix i 0) h)
-
-    pub prefix_agrees : get_or name i 0 ≡ get_or prefix i 0 → starts_with (drop i prefix) (drop i name) ≡ starts_with (drop (i + 1) prefix) (drop (i + 1) name)
-    unfolding starts_with
-    prefix_agrees h = ap₂ starts_with (drop-cons prefix i 0 more) (drop-cons name i 0 inside) ∙ rw (eq-eqb (get_or name i 0) (get_or prefix i 0) h, add-one i)
+prefix_is name [] = refl
+prefix_is [] (p ∷ prefix) = refl
+prefix_is (b ∷ name) (p ∷ prefix) = ap₂ ◌&&◌ (same p b) (prefix_is name prefix)
+  where
+    same : (p b : ℕ) → eqb p b ≡ eqb b p
+    same p b = grind (arith, nat_tests)
 
 -- ---- where name k stands
 counted-done : (o : Out (List (List ℕ))) (n : ℕ) → counted o ≡ done n → (names : List (List ℕ)) × ((o ≡ done names) × (length names ≡ n))
@@ -127,10 +123,6 @@ inside-walk [] bs at e k h = let o : ⊥ = omega arith in absurd o
 inside-walk (name ∷ names) bs at e zero h = room-here bs at name (sized_names names) e
 inside-walk (name ∷ names) bs at e (suc k) h =
     inside-walk names bs (at + 1 + get_or bs at 0) (after_here bs at name (sized_names names) e) k (omega arith)
-
-Inside : List ℕ → Option (ℕ × ℕ) → Type 0
-Inside bs none = Unit
-Inside bs (some q) = q.0 + q.1 ≤ length bs
 
 -- ---- "memory-dump"
 abbrev or_empty : Option (List ℕ) → List ℕ
@@ -278,10 +270,6 @@ module _ (limits : Limits) where
     judged-name start len e =
         step ∙ ap (λ a. judged_of count (cut_step (left - 1) bs a)) e ∙ judged-more count (part bs start len) (cut_names limits (left - 1) (drop (start + len) bs))
 
-  pub read-inside : (bs : List ℕ) (at start len : ℕ) → read_at limits bs at ≡ done (start, len) → start + len ≤ length bs
-  unfolding InsideRead
-  read-inside bs at start len e = subst (λ o. InsideRead bs o) e (read_by (λ o. InsideRead bs o) bs at (λ h. tt) (λ i h. tt) (λ i h l. tt) (λ i h l. l))
-
   pub place-refused : (bs : List ℕ) (k : ℕ) (r : Refusal) → names_count limits bs ≡ refused r → place_of limits bs k ≡ none
   unfolding place_among
   place-refused bs k r e = ap (λ o. place_among bs k o) (counted-refused (names_of limits bs) r e)
@@ -338,10 +326,6 @@ module _ (limits : Limits) where
       go : (o : Out (List (List ℕ))) → names_of limits bs ≡ o → P (place_among bs k o)
       go (refused r) e = unread r e
       go (done names) e = among names e (ltb 0 k) (ltb (length names) k) refl refl
-
-  pub place_inside : (bs : List ℕ) (k start len : ℕ) → place_of limits bs k ≡ some (start, len) → start + len ≤ length bs
-  unfolding Inside
-  place_inside bs k start len e = subst (λ p. Inside bs p) e (place-by (λ p. Inside bs p) bs k (λ r n. tt) (λ names n m. tt) (λ names n l m. l))
 
   pub dump-place : (bs : List ℕ) (k : ℕ) → is_dump limits bs k ≡ starts_with memory_dump (text_of bs (place_of limits bs k))
   unfolding text_of dump_among starts_with

@@ -1,6 +1,6 @@
 -- Laws for the proofs of node.rt.
 -- Assumes nothing.
-use Prim.Native.Nat.{ℕ, zero, suc, ◌-◌, ◌^◌, ◌<◌, ◌≤◌}
+use Prim.Native.Nat.{ℕ, zero, suc, ◌-◌, ◌^◌, ◌≤◌}
 use mathlib.Core.Path.{◌≡◌, refl, sym, ap, ap₂, ◌∙◌}
 use mathlib.Core.Bool.{Bool, true, false, cond, ◌&&◌, false≢true}
 use mathlib.Core.Option.{none, some}
@@ -9,27 +9,15 @@ use native.Mathlib.Omega.{arith}
 use lib.Dec.{ltb, leb, eqb}
 use lib.Pow.{pow_pos}
 use lib.ListN.{get_or-eq_default}
-use borrow.Author.Tests.{ltb-true, ltb-false, leb-true, leb-false, lt-ltb, le-ltb, le-leb, lt-leb, ne_eqb}
+use borrow.Author.Tests.{ltb-true, ltb-false, leb-false, lt-ltb, le-ltb, le-leb, lt-leb, ne_eqb}
 use Rattle.btor.specs.Sorts.{sort_of, width_of, bits_of, width}
 use Rattle.btor.specs.declared.node_type.NodeType.{NodeType}
-use Rattle.btor.specs.declared.node_type.CodedSort.{CodedSort}
-use Rattle.btor.specs.declared.node_type.CodedSort.TheVariants.{Known, Unknown}
+use Rattle.btor.specs.declared.node_type.UnknownSort.{UnknownSort}
+use Rattle.std.specs.Prelude.{Result, Ok, Err}
 use Rattle.rules.specs.Table.{Kind, Input, kinds, kind_of, kind_code, fits}
 use Rattle.rules.specs.Check.{known_kind}
 use Rattle.tables.specs.NodeAnswers.{kind_in}
 use Rattle.rules.proofs.Base.{code-of-kind}
-
-pub not_known : (code : ℕ) → ((0 < code) × (code < 23) → ⊥) → known_kind code ≡ false
-not_known code h = go (ltb 0 code) refl (leb code 22) refl
-  where
-    go : (a : Bool) → ltb 0 code ≡ a → (b : Bool) → leb code 22 ≡ b → (a && b) ≡ false
-    go true p true q = let l = leb-true code 22 q in absurd (h (ltb-true 0 code p, omega arith))
-    go true p false q = refl
-    go false p b q = refl
-
--- a number above n that is not the next one is above that too
-pub rises : {n code : ℕ} → n < code → (code ≡ suc n → ⊥) → suc n < code
-rises {n} {code} h d = omega arith
 
 -- ---- kinds and codes
 -- a code that names no kind reads as Input
@@ -74,13 +62,13 @@ below-ones w x = go (ltb x (2 ^ w)) refl
     go true e = let h = ltb-true x (2 ^ w) e in le-leb x (2 ^ w - 1) (omega arith)
     go false e = let h = ltb-false x (2 ^ w) e in lt-leb x (2 ^ w - 1) (omega (arith, pow_pos w))
 
-pub fits-known : (sort x : ℕ) (s : NodeType) → sort_of sort ≡ Known s → leb x (2 ^ width_of s - 1) ≡ fits sort x
+pub fits-known : (sort x : ℕ) (s : NodeType) → sort_of sort ≡ Ok s → leb x (2 ^ width_of s - 1) ≡ fits sort x
 unfolding width
-fits-known sort x s e = below-ones (width_of s) x ∙ sym (ap (λ (c : CodedSort). ltb x (2 ^ bits_of c)) e)
+fits-known sort x s e = below-ones (width_of s) x ∙ sym (ap (λ (c : Result NodeType UnknownSort). ltb x (2 ^ bits_of c)) e)
 
-pub fits-unknown : (sort x : ℕ) → sort_of sort ≡ Unknown → eqb x 0 ≡ fits sort x
+pub fits-unknown : (sort x : ℕ) (e : UnknownSort) → sort_of sort ≡ Err e → eqb x 0 ≡ fits sort x
 unfolding width
-fits-unknown sort x e = zero-only x ∙ sym (ap (λ (c : CodedSort). ltb x (2 ^ bits_of c)) e)
+fits-unknown sort x u e = zero-only x ∙ sym (ap (λ (c : Result NodeType UnknownSort). ltb x (2 ^ bits_of c)) e)
   where
     zero-only : (x : ℕ) → eqb x 0 ≡ ltb x 1
     zero-only zero = refl

@@ -1,33 +1,25 @@
--- What the cases of several.rt stand for: which codes have them, and what they say of sorts.
---     OfPair, OfTriple           the codes of a case
---     PairSorted, TripleSorted   what rule 5 asks of sorts, in every table whose nodes are the operands' rows
+-- What rules 3, 4 and 5 ask of a node whose kind is known.
+--     formed   rule 3, which asks for a known sort and, by the kind, for the rest
+--     first_over, first_broken   the first rule that the node breaks, by what was found of it and by itself
 -- Assumes nothing.
-use Rattle.std.specs.Prelude.{ℕ, ◌<◌, ◌≤◌, ◌≡◌, Bool, ◌⊎◌, List}
-use Rattle.btor.specs.Operators.{Add}
-use Rattle.rules.specs.Lists.{all_true}
-use Rattle.rules.specs.Table.{Row, Node, Read, Write, Word, Ult, Ite, Eq, And, Or, Next, kind_code, decode, node_at}
-use Rattle.rules.specs.Check.{sorted}
-use Rattle.tables.specs.NodeAnswers.{row_at}
-use Rattle.tables.specs.declared.several.Pair.{Pair}
-use Rattle.tables.specs.declared.several.Triple.{Triple}
+use Rattle.std.specs.Prelude.{ℕ, Bool, ◌&&◌, ◌||◌, not, eqb, ltb, List, [], ◌∷◌}
+use Rattle.std.proofs.Math.Option.{Option}
+use Rattle.rules.specs.Refusal.{Refusal, unless, first_of}
+use Rattle.rules.specs.Lists.{all_true, every}
+use Rattle.rules.specs.Table.{Node, Ext, is, node_at}
+use Rattle.rules.specs.Check.{known_sort, unused_as, named, may_serve, rule4, rule5}
 
-abbrev pub OfPair : Pair → ℕ → Type 0
-OfPair Pair.Read code = code ≡ kind_code Read
-OfPair Pair.Word code = (kind_code (Word Add) ≤ code) × (code < kind_code Ult)
-OfPair Pair.Comparison code = (code ≡ kind_code Ult) ⊎ (code ≡ kind_code Eq)
-OfPair Pair.Logic code = (code ≡ kind_code And) ⊎ (code ≡ kind_code Or)
-OfPair Pair.Next code = code ≡ kind_code Next
+abbrev pub formed_by_kind : ℕ → Node → Bool
+formed_by_kind names nd =
+    all_true ((not (is Ext nd) || known_sort nd.b) ∷ every (λ x. eqb x 0) (unused_as nd.kind nd) ∷ named names nd)
 
-abbrev pub OfTriple : Triple → ℕ → Type 0
-OfTriple Triple.Write code = code ≡ kind_code Write
-OfTriple Triple.Ite code = code ≡ kind_code Ite
+abbrev pub formed : ℕ → Node → Bool
+formed names nd = known_sort nd.sort && formed_by_kind names nd
 
--- the node of a table is that of the words
-abbrev pub SameAt : List ℕ → List Node → ℕ → Type 0
-SameAt ws t x = node_at t x ≡ decode (row_at ws x)
+-- by what was found of rule 3 and of sorts, and by the operands
+abbrev pub first_over : List Node → ℕ → List ℕ → Bool → Bool → Option Refusal
+first_over t k l formed sorted =
+    first_of (unless formed 3 1 k ∷ unless (every (λ x. ltb x k) l) 4 1 k ∷ unless (every (λ x. may_serve (node_at t x)) l && sorted) 5 1 k ∷ [])
 
-abbrev pub PairSorted : List ℕ → Row → Bool → Type 0
-PairSorted ws r b = (t : List Node) → SameAt ws t r.a → SameAt ws t r.b → b ≡ all_true (sorted t (decode r))
-
-abbrev pub TripleSorted : List ℕ → Row → Bool → Type 0
-TripleSorted ws r b = (t : List Node) → SameAt ws t r.a → SameAt ws t r.b → SameAt ws t r.c → b ≡ all_true (sorted t (decode r))
+abbrev pub first_broken : ℕ → List Node → ℕ → Node → Option Refusal
+first_broken names t k nd = first_of (unless (formed names nd) 3 1 k ∷ unless (rule4 k nd) 4 1 k ∷ unless (rule5 t nd) 5 1 k ∷ [])

@@ -1,26 +1,25 @@
 -- What the answers of nodes.rt, lists.rt and judge.rt say in the rules' terms.
 --     rows_in, table_in   the rows and the nodes that cut words hold        judged_of   a judgement
---     states_in, Marks   the states that are listed, and marks of them
---     sequentials_in, bads_in, table_judged, judged_count   what the rules say of a list, of a table and of a call
+--     states_before, Marks   the states that are listed, and marks of them
+--     sequentials_in, table_judged, judged_count   what the rules say of a list, of a table and of a call
 -- Assumes nothing.
-use Rattle.std.specs.Prelude.{ℕ, zero, suc, ◌+◌, ◌^◌, ◌<◌, ◌≡◌, false, List, [], ◌∷◌, map, eqb, length, get_or}
+use Rattle.std.specs.Prelude.{ℕ, zero, suc, ◌+◌, ◌^◌, ◌<◌, ◌≡◌, Bool, false, List, [], ◌∷◌, map, length, get_or, Result, Ok, Err}
 use Rattle.std.proofs.Math.Option.{Option, none, some}
 use Rattle.rules.specs.Refusal.{Refusal, Out, refused, done, ◌>>=◌, unless_refused}
 use Rattle.rules.specs.Lists.{member}
 use Rattle.rules.specs.Model.{Model, model_of}
 use Rattle.rules.specs.Table.{Row, Node, decode, node_at}
-use Rattle.rules.specs.Check.{check_node, check_sequentials, check_bads, check}
+use Rattle.rules.specs.Check.{check_sequentials, check}
 use Rattle.rules.specs.Limits.{Limits, need}
 use Rattle.rules.specs.Sections as rules
 use Rattle.rules.specs.Sections.{cut}
 use Rattle.rules.specs.Call.{Call, model_from, judged}
 use Rattle.tables.specs.Refusals.{refusal_of}
-use Rattle.tables.specs.NodeAnswers.{row_at}
 use Rattle.tables.specs.SectionAnswers.{words_in, sections_in, Inside}
-use Rattle.tables.specs.declared.sections.Part.{Part}
 use Rattle.tables.specs.declared.sections.Sections.{Sections}
-use Rattle.tables.specs.declared.nodes.Judged.{Judged}
-use Rattle.tables.specs.declared.judge.Verdict.{Verdict}
+use Rattle.tables.specs.declared.refusal.Refusal as why
+use Rattle.tables.specs.declared.judge.Accepted.{Accepted}
+use Rattle.tables.specs.declared.table.Table.{Table}
 
 abbrev pub rows_in : List ℕ → Sections → List Row
 rows_in ws s = (sections_in ws s).rows
@@ -28,19 +27,21 @@ rows_in ws s = (sections_in ws s).rows
 abbrev pub table_in : List ℕ → Sections → List Node
 table_in ws s = map decode (rows_in ws s)
 
--- what rules 3, 4 and 5 say of a node n by its row, in every table whose nodes before n are those of the words
-abbrev pub IsChecked : List ℕ → ℕ → ℕ → Row → Option Refusal → Type 0
-IsChecked ws names n r o =
-    (t : List Node) → ((k : ℕ) → k < n → node_at t k ≡ decode (row_at ws k)) → o ≡ check_node names t n r
+-- the same of a table of table.rt
+abbrev pub rows_of : Table → List Row
+rows_of t = rows_in t.words.now t.sections
+
+abbrev pub nodes_of : Table → List Node
+nodes_of t = table_in t.words.now t.sections
 
 -- words that were cut into these sections
 pub record IsCut (limits : Limits) (ws : List ℕ) (s : Sections) : Type 0 where
   pub whole : cut limits ws ≡ done (sections_in ws s)
   pub inside : Inside ws s
 
-abbrev pub judged_of : Judged → Option Refusal
-judged_of Judged.Passed = none
-judged_of (Judged.Refused r) = some (refusal_of r)
+abbrev pub judged_of : Result (Unit {0}) why.Refusal → Option Refusal
+judged_of (Ok _) = none
+judged_of (Err r) = some (refusal_of r)
 
 -- ---- the lists
 -- the states of the first k sequentials, the last first
@@ -48,19 +49,13 @@ unfoldable pub states_before : List Node → List ℕ → ℕ → List ℕ
 states_before t ss zero = []
 states_before t ss (suc k) = (node_at t (get_or ss k 0)).a ∷ states_before t ss k
 
-abbrev pub states_in : List ℕ → Sections → ℕ → List ℕ
-states_in ws s k = states_before (table_in ws s) (words_in ws 1 s.sequentials) k
-
 -- marks tell which states are listed, as far as they reach
-abbrev pub Marks : List ℕ → List ℕ → Type 0
-Marks states marks = (x : ℕ) → x < length marks → eqb (get_or marks x 0) 1 ≡ member x states
+abbrev pub Marks : List ℕ → List Bool → Type 0
+Marks states marks = (x : ℕ) → x < length marks → get_or marks x false ≡ member x states
 
--- what rules 6 and 7 say of section 2, and 6 of a list of bads
+-- what rules 6 and 7 say of section 2
 abbrev pub sequentials_in : List ℕ → Sections → Option Refusal
 sequentials_in ws s = check_sequentials (table_in ws s) 0 [] (words_in ws 1 s.sequentials)
-
-abbrev pub bads_in : List ℕ → Sections → ℕ → Part → Option Refusal
-bads_in ws s section p = check_bads (table_in ws s) section 0 (words_in ws 1 p)
 
 -- ---- a call
 -- the refusal of an outcome, if it is one
@@ -95,6 +90,6 @@ abbrev pub judged_count : Limits → ℕ → List ℕ → List ℕ → ℕ → �
 judged_count limits mode words names result_room scratch_room =
     judged limits (call_with mode words names result_room scratch_room) >>= λ j. done (j.sections, length j.names)
 
-abbrev pub verdict_of : List ℕ → Verdict → Out (rules.Sections × ℕ)
-verdict_of ws (Verdict.Accepted s k) = done (sections_in ws s, k)
-verdict_of ws (Verdict.Refused r) = refused (refusal_of r)
+abbrev pub verdict_of : List ℕ → Result Accepted why.Refusal → Out (rules.Sections × ℕ)
+verdict_of ws (Ok a) = done (sections_in ws a.sections, a.names)
+verdict_of ws (Err r) = refused (refusal_of r)

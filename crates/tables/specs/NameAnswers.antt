@@ -5,7 +5,8 @@
 --     is_dump, dump_mark   whether name k starts with "memory-dump", and the same as a 1 or a 0
 --     nodes_in, name_word_of   how many nodes section 1 has, and the name word of one of them
 -- Assumes nothing.
-use Rattle.std.specs.Prelude.{ℕ, ◌+◌, Bool, false, List, length, get_or, drop}
+use Rattle.std.specs.Prelude.{ℕ, ◌+◌, Bool, false, List, length, get_or, drop, Result, Ok, Err, Some, None}
+use Rattle.std.specs.Prelude as rust
 use Rattle.std.proofs.Math.Option.{Option, none, some}
 use Rattle.btor.specs.Operators.{bit}
 use Rattle.rules.specs.Refusal.{Out, refused, done, ◌>>=◌}
@@ -14,18 +15,14 @@ use Rattle.rules.specs.Limits.{Limits}
 use Rattle.rules.specs.Sections.{Part, cut_section, rows_of}
 use Rattle.rules.specs.Names.{cut_names, names_of, name_start, name_size, dump}
 use Rattle.rules.specs.Label.{at, named}
-use Rattle.tables.specs.declared.names.NamesCut.{NamesCut}
-use Rattle.tables.specs.declared.names.NamesCut.TheVariants as cuts
-use Rattle.tables.specs.declared.names.NameRead.{NameRead}
-use Rattle.tables.specs.declared.names.NameRead.TheVariants as reads
-use Rattle.tables.specs.declared.names.NamePlace.{NamePlace}
-use Rattle.tables.specs.declared.names.NamePlace.TheVariants.{At, Nowhere}
 use Rattle.tables.specs.Refusals.{refusal_of}
+use Rattle.tables.specs.declared.names.NameSpan.{NameSpan}
+use Rattle.tables.specs.declared.refusal.Refusal.{Refusal}
 
 -- ---- how many names
-abbrev pub count_of : NamesCut → Out ℕ
-count_of (cuts.Names count) = done count
-count_of (cuts.Refused r) = refused (refusal_of r)
+abbrev pub count_of : Result ℕ Refusal → Out ℕ
+count_of (Ok count) = done count
+count_of (Err r) = refused (refusal_of r)
 
 unfoldable pub counted : Out (List (List ℕ)) → Out ℕ
 counted (refused r) = refused r
@@ -35,17 +32,17 @@ abbrev pub names_count : Limits → List ℕ → Out ℕ
 names_count limits bs = counted (names_of limits bs)
 
 -- ---- one name, its length byte at a place: where its bytes start, and how many they are
-abbrev pub read_of : NameRead → Out (ℕ × ℕ)
-read_of (reads.Name start len) = done (start, len)
-read_of (reads.Refused r) = refused (refusal_of r)
+abbrev pub read_of : Result NameSpan Refusal → Out (ℕ × ℕ)
+read_of (Ok n) = done (n.start, n.len)
+read_of (Err r) = refused (refusal_of r)
 
 unfoldable pub read_at : Limits → List ℕ → ℕ → Out (ℕ × ℕ)
 read_at limits bs at = cut_names limits 1 (drop at bs) >>= λ p. done (at + 1, get_or bs at 0)
 
 -- ---- "k for the k-th name, from 1, and 0 for none": where its bytes start, and how many they are, if the bytes are not refused and have a name k
-abbrev pub placed : NamePlace → Option (ℕ × ℕ)
-placed (At start len) = some (start, len)
-placed Nowhere = none
+abbrev pub placed : rust.Option NameSpan → Option (ℕ × ℕ)
+placed (Some n) = some (n.start, n.len)
+placed None = none
 
 abbrev pub place_if : List ℕ → ℕ → Option (List ℕ) → Option (ℕ × ℕ)
 place_if bs k none = none

@@ -2,7 +2,7 @@
 --     found_of    a section: its content and the words after it       six_of, cut_of    the six sections
 --     Inside     where the sections stand
 -- Assumes nothing.
-use Rattle.std.specs.Prelude.{ℕ, ◌+◌, ◌*◌, ◌^◌, ◌<◌, ◌≤◌, ◌≡◌, List, length, take, drop}
+use Rattle.std.specs.Prelude.{ℕ, ◌+◌, ◌*◌, ◌^◌, ◌<◌, ◌≤◌, ◌≡◌, List, length, take, drop, Result, Ok, Err}
 use Rattle.rules.specs.Refusal.{Out, refused, done}
 use Rattle.rules.specs.Table.{row_width}
 use Rattle.rules.specs.Sections as rules
@@ -10,16 +10,15 @@ use Rattle.rules.specs.Sections.{rows_of}
 use Rattle.tables.specs.Refusals.{refusal_of}
 use Rattle.tables.specs.declared.sections.Part.{Part}
 use Rattle.tables.specs.declared.sections.Sections.{Sections}
-use Rattle.tables.specs.declared.sections.Cut.{Cut}
-use Rattle.tables.specs.declared.sections.Found.{Found}
+use Rattle.tables.specs.declared.refusal.Refusal.{Refusal}
 
 -- the words of a section
 abbrev pub words_in : List ℕ → ℕ → Part → List ℕ
 words_in ws width p = take (width * p.count) (drop p.start ws)
 
-abbrev pub found_of : List ℕ → ℕ → Found → Out rules.Part
-found_of ws width (Found.Section p) = done (record { count = p.count; content = words_in ws width p; rest = drop p.end ws })
-found_of ws width (Found.Refused r) = refused (refusal_of r)
+abbrev pub found_of : List ℕ → ℕ → Result Part Refusal → Out rules.Part
+found_of ws width (Ok p) = done (record { count = p.count; content = words_in ws width p; rest = drop p.end ws })
+found_of ws width (Err r) = refused (refusal_of r)
 
 abbrev pub sections_in : List ℕ → Sections → rules.Sections
 sections_in ws s =
@@ -32,14 +31,14 @@ sections_in ws s =
       replies = words_in ws 1 s.replies;
     }
 
-abbrev pub cut_of : List ℕ → Cut → Out rules.Sections
-cut_of ws (Cut.Whole s) = done (sections_in ws s)
-cut_of ws (Cut.Refused r) = refused (refusal_of r)
+abbrev pub cut_of : List ℕ → Result Sections Refusal → Out rules.Sections
+cut_of ws (Ok s) = done (sections_in ws s)
+cut_of ws (Err r) = refused (refusal_of r)
 
 -- the six sections, and the words after them
-abbrev pub six_of : List ℕ → Cut → Out (rules.Sections × List ℕ)
-six_of ws (Cut.Whole s) = done (sections_in ws s, drop s.replies.end ws)
-six_of ws (Cut.Refused r) = refused (refusal_of r)
+abbrev pub six_of : List ℕ → Result Sections Refusal → Out (rules.Sections × List ℕ)
+six_of ws (Ok s) = done (sections_in ws s, drop s.replies.end ws)
+six_of ws (Err r) = refused (refusal_of r)
 
 -- where a section stands whose count is at a place: its words follow the count, and end in the words; a limit, and so a count, has 32 bits
 pub record Lies (ws : List ℕ) (at width : ℕ) (p : Part) : Type 0 where

@@ -1,23 +1,23 @@
 // The label of a node: a part of the names bytes, or the caller's substitute. Sections 1 and 7 alone are looked at.
 ghost use Rattle.std.specs.Prelude.{◌≡◌};
-ghost use Rattle.rules.specs.Limits.{house};
 ghost use Rattle.rules.specs.Label.{label_of};
 ghost use Rattle.tables.specs.LimitAnswers.{limits_is};
 ghost use Rattle.tables.specs.NameAnswers.{nodes_in, name_word_of};
 
 use crate::limits::Limits;
-use crate::names::{NamePlace, name_place};
+use crate::names::name_place;
 use crate::node::Row;
 use crate::rows::row_word;
-use crate::sections::{Found, section_at};
+use crate::sections::section_at;
 
 // How many nodes section 1 holds: none where it is refused.
+#[tactic(auto, unfolding(crate::specs::NameAnswers::nodes_cut))]
 fn nodes_in(words: &[u64], limits: Limits) -> u64
     ensures { result ≡ nodes_in (limits_is limits) words.now }
 {
     match section_at(words, 0, 1, limits.nodes, Row::WIDTH) {
-        Found::Section(nodes) => nodes.count as u64,
-        Found::Refused(_) => 0,
+        Ok(nodes) => nodes.count as u64,
+        Err(_) => 0,
     }
 }
 
@@ -32,7 +32,7 @@ fn name_word(words: &[u64], node: u64, limits: Limits) -> u64
 }
 
 // The name of a node, or the substitute: for a node past the table, with name 0 or past the last, or where section 1 or 7 is refused.
-pub fn label_within<'a>(
+pub fn label<'a>(
     words: &[u64],
     names: &'a [u8],
     substitute: &'a [u8],
@@ -41,16 +41,8 @@ pub fn label_within<'a>(
 ) -> &'a [u8]
     ensures { result.now ≡ label_of (limits_is limits) node words.now names.now substitute.now }
 {
-    let name = name_word(words, node, limits);
-    match name_place(names, name, limits) {
-        NamePlace::At { start, len } => &names[start..start + len],
-        NamePlace::Nowhere => substitute,
+    match name_place(names, name_word(words, node, limits), limits) {
+        Some(name) => &names[name.start..name.start + name.len],
+        None => substitute,
     }
-}
-
-// The same by the house's limits.
-pub fn label<'a>(words: &[u64], names: &'a [u8], substitute: &'a [u8], node: u64) -> &'a [u8]
-    ensures { result.now ≡ label_of house node words.now names.now substitute.now }
-{
-    label_within(words, names, substitute, node, Limits::house())
 }

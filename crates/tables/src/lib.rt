@@ -3,13 +3,12 @@
 
 pub mod refusal; // refusal.rt: why a call is refused
 pub mod limits; // limits.rt: the limits, the room and the highest mode
-pub mod logic; // logic.rt: tests joined
 pub mod sections; // sections.rt: sections 1 to 6 of the words
 pub mod node; // node.rt: the kinds of nodes, and the six words of one
 pub mod rows; // rows.rt: the words of rows
-pub mod forms; // forms.rt: what judging a node by its form shares
-pub mod single; // single.rt: nodes without operands or with one
-pub mod several; // several.rt: nodes with two operands or three
+pub mod form; // form.rt: rule 3 of a node by itself
+pub mod sorts; // sorts.rt: rule 5 of a node
+pub mod table; // table.rt: the words of a call with their sections
 pub mod nodes; // nodes.rt: rules 3, 4 and 5 over the nodes
 pub mod lists; // lists.rt: rules 6 and 7 over the lists
 pub mod names; // names.rt: the names bytes, section 7

@@ -1,144 +1,128 @@
-// Rules 6 and 7 over the three lists of cut words, entry by entry.
-ghost use Rattle.std.specs.Prelude.{◌≡◌, ℕ, ◌≤◌, get_or, set};
+// Rules 6 and 7 over the three lists of a table, entry by entry.
+ghost use Rattle.std.specs.Prelude.{◌≡◌, ℕ, ◌+◌, ◌^◌, ◌<◌, ◌≤◌, length, get_or, set, ltb, true, false};
 ghost use Rattle.rules.specs.Lists.{all_true, member};
-ghost use Rattle.rules.specs.Check.{sequential_entry, bad_entry};
-ghost use Rattle.tables.specs.SectionAnswers.{Lies, Inside};
-ghost use Rattle.tables.specs.Judging.{judged_of, table_in, states_in, Marks, sequentials_in, bads_in};
+ghost use Rattle.rules.specs.Check.{sequential_entry, bad_entry, check_bads};
+ghost use Rattle.tables.specs.SectionAnswers.{words_in};
+ghost use Rattle.tables.specs.Judging.{judged_of, nodes_of, states_before, Marks, sequentials_in};
 
-use crate::logic::all;
 use crate::node::NodeKind;
-use crate::nodes::{Judged, node_at};
 use crate::refusal::Refusal;
-use crate::sections::{Part, Sections};
+use crate::sections::Part;
+use crate::table::Table;
 
 // How many nodes have a mark: in a table with at most FEW nodes, and in a larger one. Only as many as needed are cleared.
 const FEW: usize = 4096;
 
 const MANY: usize = 65536;
 
-// Whether an entry of section 2 is a Next of the table whose state has an init.
-fn is_sequential(words: &[u64], sections: Sections, entry: u64) -> bool
-    requires { Inside words.now sections }
-    ensures { result ≡ all_true (sequential_entry (table_in words.now sections) entry) }
-{
-    let next = node_at(words, sections, entry);
-    let state = node_at(words, sections, next.a);
-    let inside = entry < sections.nodes.count as u64;
-    all(inside, all(next.code == NodeKind::NEXT, state.b == 1))
-}
-
-// Whether an entry of section 3 or 4 is a Bad of the table.
-fn is_bad(words: &[u64], sections: Sections, entry: u64) -> bool
-    requires { Inside words.now sections }
-    ensures { result ≡ all_true (bad_entry (table_in words.now sections) entry) }
-{
-    let bad = node_at(words, sections, entry);
-    let inside = entry < sections.nodes.count as u64;
-    all(inside, bad.code == NodeKind::BAD)
-}
-
-pub(crate) fn judge_bads(
-    words: &[u64],
-    sections: Sections,
-    part: Part,
-    at: usize,
-    section: u64,
-) -> Judged
-    requires inside { Inside words.now sections }
-    requires lies { Lies words.now at 1 part }
-    ensures { judged_of result ≡ bads_in words.now sections section part }
-{
-    let start = part.start;
-    let mut place = 0;
-    while place < part.count {
-        if !is_bad(words, sections, words[start + place]) {
-            return Judged::Refused(Refusal::Entry(section, place));
-        }
-        place += 1;
-    }
-    Judged::Passed
-}
-
-// Whether one of the sequentials before a place is of a state.
-fn listed_before(words: &[u64], sections: Sections, place: usize, state: u64) -> bool
-    requires inside { Inside words.now sections }
-    requires place_le_count { place ≤ sections.sequentials.count }
-    ensures { result ≡ member state (states_in words.now sections place) }
-{
-    let start = sections.sequentials.start;
-    let mut left = place;
-    while 0 < left {
-        left -= 1;
-        let next = node_at(words, sections, words[start + left]);
-        if next.a == state {
-            return true;
-        }
-    }
-    false
-}
-
-// The same by the state's mark, where it has one.
-fn was_listed(words: &[u64], sections: Sections, seen: &[u8], place: usize, state: u64) -> bool
-    requires inside { Inside words.now sections }
-    requires place_le_count { place ≤ sections.sequentials.count }
-    requires marks { Marks (states_in words.now sections place) seen.now }
-    ensures { result ≡ member state (states_in words.now sections place) }
-{
-    if state < seen.len() as u64 {
-        return seen[state as usize] == 1;
-    }
-    listed_before(words, sections, place, state)
-}
-
 // Marks a state, if it has a mark.
-fn mark(seen: &mut [u8], state: u64)
-    ensures { seen.new ≡ set seen.old state 1 }
+fn mark(seen: &mut [bool], state: u64)
+    ensures { seen.new ≡ set seen.old state true }
 {
-    if seen.len() as u64 <= state {
-        return;
+    let place = state as usize;
+    if place < seen.len() {
+        seen[place] = true;
     }
-    seen[state as usize] = 1;
 }
 
-// Section 2 over lent marks that are all 0. A state without a mark is looked for among the entries.
-fn judge_marked(words: &[u64], sections: Sections, seen: &mut [u8]) -> Judged
-    requires inside { Inside words.now sections }
-    requires by_index { (k : ℕ) → get_or seen.old k 0 ≡ 0 }
-    ensures { judged_of result ≡ sequentials_in words.now sections }
-{
-    let start = sections.sequentials.start;
-    let mut place = 0;
-    while place < sections.sequentials.count {
-        let entry = words[start + place];
-        if !is_sequential(words, sections, entry) {
-            return Judged::Refused(Refusal::Entry(2, place));
+impl<'a> Table<'a> {
+    // The entries of a list.
+    pub(crate) fn list(self, part: Part) -> &'a [u64]
+        requires { part.start + part.count ≤ length self.words.now }
+        ensures { result.now ≡ words_in self.entry.words.now 1 part }
+    {
+        &self.words[part.start..part.start + part.count]
+    }
+
+    fn has_node(self, number: u64) -> bool
+        ensures { result ≡ ltb number (length (nodes_of self.entry)) }
+    {
+        number < self.sections.nodes.count as u64
+    }
+
+    // Whether an entry of section 2 is a Next of the table whose state has an init.
+    fn is_sequential(self, entry: u64) -> bool
+        ensures { result ≡ all_true (sequential_entry (nodes_of self.entry) entry) }
+    {
+        let next = self.row(entry);
+        self.has_node(entry) && next.code == NodeKind::NEXT && self.row(next.a).b == 1
+    }
+
+    // Whether an entry of section 3 or 4 is a Bad of the table.
+    fn is_bad(self, entry: u64) -> bool
+        ensures { result ≡ all_true (bad_entry (nodes_of self.entry) entry) }
+    {
+        self.has_node(entry) && self.row(entry).code == NodeKind::BAD
+    }
+
+    // The section is the number that a refusal tells.
+    pub(crate) fn judge_bads(self, bads: &[u64], section: u64) -> Result<(), Refusal>
+        ensures { judged_of result ≡ check_bads (nodes_of self.entry) section 0 bads.now }
+    {
+        match bads.iter().position(|bad| !self.is_bad(*bad)) {
+            Some(place) => Err(Refusal::Entry(section, place)),
+            None => Ok(()),
         }
-        let next = node_at(words, sections, entry);
-        if was_listed(words, sections, seen, place, next.a) {
-            return Judged::Refused(Refusal::SecondSequential(place));
+    }
+
+    // Whether one of the sequentials before a place is of a state.
+    fn is_listed_before(self, sequentials: &[u64], place: usize, state: u64) -> bool
+        requires { place ≤ length sequentials.now }
+        ensures { result ≡ member state (states_before (nodes_of self.entry) sequentials.now place) }
+    {
+        sequentials[..place]
+            .iter()
+            .any(|entry| state == self.row(*entry).a)
+    }
+
+    // The same by the state's mark, where it has one.
+    fn was_listed(self, seen: &[bool], sequentials: &[u64], place: usize, state: u64) -> bool
+        requires place_le_length { place ≤ length sequentials.now }
+        requires marks { Marks (states_before (nodes_of self) sequentials.now place) seen.now }
+        ensures { result ≡ member state (states_before (nodes_of self.entry) sequentials.now place) }
+    {
+        match seen.get(state as usize) {
+            Some(mark) => *mark,
+            None => self.is_listed_before(sequentials, place, state),
         }
-        mark(seen, next.a);
-        place += 1;
     }
-    Judged::Passed
-}
 
-// A mark for each node of a larger table, up to so many.
-fn judge_many(words: &[u64], sections: Sections) -> Judged
-    requires { Inside words.now sections }
-    ensures { judged_of result ≡ sequentials_in words.now sections }
-{
-    let mut seen = [0u8; MANY];
-    judge_marked(words, sections, &mut seen)
-}
-
-pub(crate) fn judge_sequentials(words: &[u64], sections: Sections) -> Judged
-    requires { Inside words.now sections }
-    ensures { judged_of result ≡ sequentials_in words.now sections }
-{
-    if FEW < sections.nodes.count {
-        return judge_many(words, sections);
+    // Section 2 over lent marks that are not set. A state without a mark is looked for among the entries.
+    fn judge_marked(self, seen: &mut [bool]) -> Result<(), Refusal>
+        requires { (k : ℕ) → get_or seen.old k false ≡ false }
+        ensures { judged_of result ≡ sequentials_in self.entry.words.now self.entry.sections }
+    {
+        let sequentials = self.list(self.sections.sequentials);
+        for (place, entry) in sequentials.iter().enumerate() {
+            if !self.is_sequential(*entry) {
+                return Err(Refusal::Entry(2, place));
+            }
+            let state = self.row(*entry).a;
+            if self.was_listed(seen, sequentials, place, state) {
+                return Err(Refusal::SecondSequential(place));
+            }
+            mark(seen, state);
+        }
+        Ok(())
     }
-    let mut seen = [0u8; FEW];
-    judge_marked(words, sections, &mut seen)
+
+    // So many marks are lent, in a function of their own, so that a small table does not clear those of a large one.
+    #[inline(never)]
+    fn judge_by_marks<const MARKS: usize>(self) -> Result<(), Refusal>
+        requires { MARKS < 2 ^ 32 }
+        ensures { judged_of result ≡ sequentials_in self.entry.words.now self.entry.sections }
+    {
+        let mut seen = [false; MARKS];
+        self.judge_marked(&mut seen)
+    }
+
+    pub(crate) fn judge_sequentials(self) -> Result<(), Refusal>
+        ensures { judged_of result ≡ sequentials_in self.entry.words.now self.entry.sections }
+    {
+        if FEW < self.sections.nodes.count {
+            self.judge_by_marks::<MANY>()
+        } else {
+            self.judge_by_marks::<FEW>()
+        }
+    }
 }

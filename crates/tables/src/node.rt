@@ -1,12 +1,12 @@
 // The kinds of nodes, in the order of mod.rs's Node; the six words of a node; the sorts that words name.
-ghost use Rattle.std.specs.Prelude.{◌≡◌};
-ghost use Rattle.rules.specs.Table.{fits};
-ghost use Rattle.rules.specs.Check.{known_sort};
-ghost use Rattle.tables.specs.NodeAnswers.{coded_kind_of, kind_in};
+ghost use Rattle.std.specs.Prelude.{◌≡◌, true, false, IfErr, MatchResult};
+ghost use Rattle.rules.specs.Table.{fits, decode};
+ghost use Rattle.rules.specs.Check.{known_kind, known_sort};
+ghost use Rattle.tables.specs.NodeAnswers.{coded_kind_of, kind_in, row_is, node_is};
 
-use btor::node_type::{CodedSort, NodeType};
+use btor::node_type::NodeType;
 
-#[derive(Clone, Copy)]
+#[derive(Clone, Copy, Debug, PartialEq, Eq)]
 pub enum NodeKind {
     Const,
     Read,
@@ -32,13 +32,11 @@ pub enum NodeKind {
     Bad,
 }
 
-// What a word names, read as a kind's code.
-#[derive(Clone, Copy)]
-pub enum CodedKind {
-    Known(NodeKind),
-    Unknown,
-}
+// A word that is the code of no kind.
+#[derive(Clone, Copy, Debug, PartialEq, Eq)]
+pub struct UnknownKind(pub u64);
 
+// The codes are associated constants, as the project's rules ask: words are compared with them before their kind is known.
 impl NodeKind {
     pub const CONST: u64 = 1;
 
@@ -83,41 +81,45 @@ impl NodeKind {
     pub const INPUT: u64 = 21;
 
     pub const BAD: u64 = 22;
+}
 
-    // The kind that a code names.
-    pub fn from_code(code: u64) -> CodedKind
-        ensures { coded_kind_of result ≡ kind_in code }
-    {
+// The kind that a code names.
+impl TryFrom<u64> for NodeKind {
+    type Error = UnknownKind;
+
+    ghost try_from_gives = { λ code named. (coded_kind_of named ≡ kind_in code) × IfErr named (λ e. e.0 ≡ code) };
+
+    fn try_from(code: u64) -> Result<NodeKind, UnknownKind> {
         match code {
-            NodeKind::CONST => CodedKind::Known(NodeKind::Const),
-            NodeKind::READ => CodedKind::Known(NodeKind::Read),
-            NodeKind::WRITE => CodedKind::Known(NodeKind::Write),
-            NodeKind::ADD => CodedKind::Known(NodeKind::Add),
-            NodeKind::SUB => CodedKind::Known(NodeKind::Sub),
-            NodeKind::MUL => CodedKind::Known(NodeKind::Mul),
-            NodeKind::DIVU => CodedKind::Known(NodeKind::Divu),
-            NodeKind::DIV => CodedKind::Known(NodeKind::Div),
-            NodeKind::REM => CodedKind::Known(NodeKind::Rem),
-            NodeKind::SLL => CodedKind::Known(NodeKind::Sll),
-            NodeKind::SRL => CodedKind::Known(NodeKind::Srl),
-            NodeKind::ULT => CodedKind::Known(NodeKind::Ult),
-            NodeKind::EXT => CodedKind::Known(NodeKind::Ext),
-            NodeKind::ITE => CodedKind::Known(NodeKind::Ite),
-            NodeKind::EQ => CodedKind::Known(NodeKind::Eq),
-            NodeKind::AND => CodedKind::Known(NodeKind::And),
-            NodeKind::OR => CodedKind::Known(NodeKind::Or),
-            NodeKind::NOT => CodedKind::Known(NodeKind::Not),
-            NodeKind::STATE => CodedKind::Known(NodeKind::State),
-            NodeKind::NEXT => CodedKind::Known(NodeKind::Next),
-            NodeKind::INPUT => CodedKind::Known(NodeKind::Input),
-            NodeKind::BAD => CodedKind::Known(NodeKind::Bad),
-            _ => CodedKind::Unknown,
+            NodeKind::CONST => Ok(NodeKind::Const),
+            NodeKind::READ => Ok(NodeKind::Read),
+            NodeKind::WRITE => Ok(NodeKind::Write),
+            NodeKind::ADD => Ok(NodeKind::Add),
+            NodeKind::SUB => Ok(NodeKind::Sub),
+            NodeKind::MUL => Ok(NodeKind::Mul),
+            NodeKind::DIVU => Ok(NodeKind::Divu),
+            NodeKind::DIV => Ok(NodeKind::Div),
+            NodeKind::REM => Ok(NodeKind::Rem),
+            NodeKind::SLL => Ok(NodeKind::Sll),
+            NodeKind::SRL => Ok(NodeKind::Srl),
+            NodeKind::ULT => Ok(NodeKind::Ult),
+            NodeKind::EXT => Ok(NodeKind::Ext),
+            NodeKind::ITE => Ok(NodeKind::Ite),
+            NodeKind::EQ => Ok(NodeKind::Eq),
+            NodeKind::AND => Ok(NodeKind::And),
+            NodeKind::OR => Ok(NodeKind::Or),
+            NodeKind::NOT => Ok(NodeKind::Not),
+            NodeKind::STATE => Ok(NodeKind::State),
+            NodeKind::NEXT => Ok(NodeKind::Next),
+            NodeKind::INPUT => Ok(NodeKind::Input),
+            NodeKind::BAD => Ok(NodeKind::Bad),
+            _ => Err(UnknownKind(code)),
         }
     }
 }
 
 // The six words of a node.
-#[derive(Clone, Copy)]
+#[derive(Clone, Copy, Debug, PartialEq, Eq)]
 pub struct Row {
     pub code: u64,
     pub sort: u64,
@@ -131,7 +133,7 @@ impl Row {
     // How many words a row has.
     pub const WIDTH: usize = 6;
 
-    // The places of its words.
+    // The places of its words: numbers, as each is added to the place of the row.
     pub const CODE: usize = 0;
 
     pub const SORT: usize = 1;
@@ -145,22 +147,48 @@ impl Row {
     pub const NAME: usize = 5;
 }
 
+// A row whose kind is known. With the row as a field instead, each of its words would be named by way of it.
+#[derive(Clone, Copy)]
+pub(crate) struct Node {
+    pub(crate) kind: NodeKind,
+    pub(crate) sort: u64,
+    pub(crate) a: u64,
+    pub(crate) b: u64,
+    pub(crate) c: u64,
+    pub(crate) name: u64,
+}
+
+impl TryFrom<Row> for Node {
+    type Error = UnknownKind;
+
+    ghost try_from_gives = { λ row named. MatchResult named (λ n. (known_kind row.code ≡ true) × (node_is n ≡ decode (row_is row))) (λ _. known_kind row.code ≡ false) };
+
+    fn try_from(row: Row) -> Result<Node, UnknownKind> {
+        let kind = NodeKind::try_from(row.code)?;
+        Ok(Node {
+            kind,
+            sort: row.sort,
+            a: row.a,
+            b: row.b,
+            c: row.c,
+            name: row.name,
+        })
+    }
+}
+
 // Whether a word is the code of a sort.
 pub(crate) fn known_sort(code: u64) -> bool
     ensures { result ≡ known_sort code }
 {
-    match NodeType::from_code(code) {
-        CodedSort::Known(_) => true,
-        CodedSort::Unknown => false,
-    }
+    NodeType::try_from(code).is_ok()
 }
 
 // Whether a number fits the width of a sort.
 pub fn fits_sort(sort: u64, number: u64) -> bool
     ensures { result ≡ fits sort number }
 {
-    match NodeType::from_code(sort) {
-        CodedSort::Known(known) => number <= known.ones(),
-        CodedSort::Unknown => number == 0,
+    match NodeType::try_from(sort) {
+        Ok(known) => number <= known.ones(),
+        Err(_) => number == 0,
     }
 }

@@ -1,78 +1,106 @@
-// Rules 3, 4 and 5 over the nodes of cut words, node by node, rising.
-ghost use Rattle.std.specs.Prelude.{◌≡◌, ◌<◌, get_or};
+// The nodes of a table, and rules 3, 4 and 5 over them, node by node, rising.
+ghost use Rattle.std.specs.Prelude.{◌≡◌, ◌<◌, ltb, get_or};
 ghost use Rattle.rules.specs.Table.{decode, node_at};
 ghost use Rattle.rules.specs.Check.{check_node, check_nodes};
-ghost use Rattle.tables.specs.NodeAnswers.{row_is, row_unknown};
-ghost use Rattle.tables.specs.SectionAnswers.{Inside};
-ghost use Rattle.tables.specs.Judging.{judged_of, rows_in, table_in};
+ghost use Rattle.rules.specs.Lists.{every};
+ghost use Rattle.tables.specs.NodeAnswers.{row_is, node_is, row_unknown};
+ghost use Rattle.tables.specs.FormAnswers.{first_over, first_broken};
+ghost use Rattle.tables.specs.Judging.{judged_of, rows_of, nodes_of};
 
-use crate::node::{NodeKind, Row};
+use crate::node::{Node, NodeKind, Row};
 use crate::refusal::Refusal;
 use crate::rows::row_at;
-use crate::sections::Sections;
-use crate::several::{Pair, Triple, judge_three, judge_two};
-use crate::single::{judge_bad, judge_const, judge_ext, judge_input, judge_not, judge_state};
+use crate::table::Table;
 
-#[derive(Clone, Copy)]
-pub enum Judged {
-    Passed,
-    Refused(Refusal),
+// Whether each of some operands is before a node.
+fn are_before<const N: usize>(operands: [u64; N], node: usize) -> bool
+    ensures { result ≡ every (λ x. ltb x node) operands.entry }
+{
+    operands.iter().all(|operand| *operand < node as u64)
 }
 
-// The node with a number; past the table stands an Input of no sort.
-pub(crate) fn node_at(words: &[u64], sections: Sections, number: u64) -> Row
-    requires { Inside words.now sections }
-    ensures { decode (row_is result) ≡ node_at (table_in words.now sections) number }
-{
-    if number < sections.nodes.count as u64 {
-        return row_at(words, number as usize);
-    }
-    Row {
-        code: NodeKind::INPUT,
-        sort: 0,
-        a: 0,
-        b: 0,
-        c: 0,
-        name: 0,
-    }
-}
-
-// One node, by the code of its kind.
-fn judge_node(words: &[u64], sections: Sections, names: u64, node: usize) -> Judged
-    requires inside { Inside words.now sections }
-    requires node_lt_count { node < sections.nodes.count }
-    ensures { judged_of result ≡ check_node names (table_in words.now sections) node (get_or (rows_in words.now sections) node row_unknown) }
-{
-    let row = row_at(words, node);
-    let code = row.code;
-    match code {
-        NodeKind::CONST => judge_const(row, node),
-        NodeKind::READ => judge_two(words, row, node, Pair::Read),
-        NodeKind::WRITE => judge_three(words, row, node, Triple::Write),
-        NodeKind::ADD..=NodeKind::SRL => judge_two(words, row, node, Pair::Word),
-        NodeKind::ULT | NodeKind::EQ => judge_two(words, row, node, Pair::Comparison),
-        NodeKind::EXT => judge_ext(words, row, node),
-        NodeKind::ITE => judge_three(words, row, node, Triple::Ite),
-        NodeKind::AND | NodeKind::OR => judge_two(words, row, node, Pair::Logic),
-        NodeKind::NOT => judge_not(words, row, node),
-        NodeKind::STATE => judge_state(words, row, names, node),
-        NodeKind::NEXT => judge_two(words, row, node, Pair::Next),
-        NodeKind::INPUT => judge_input(row, names, node),
-        NodeKind::BAD => judge_bad(words, row, names, node),
-        _ => Judged::Refused(Refusal::Malformed(node)),
-    }
-}
-
-pub(crate) fn judge_nodes(words: &[u64], sections: Sections, names: u64) -> Judged
-    requires { Inside words.now sections }
-    ensures { judged_of result ≡ check_nodes names (table_in words.now sections) 0 (rows_in words.now sections) }
-{
-    let mut node = 0;
-    while node < sections.nodes.count {
-        match judge_node(words, sections, names, node) {
-            Judged::Passed => node += 1,
-            Judged::Refused(why) => return Judged::Refused(why),
+impl<'a> Table<'a> {
+    // The row with a number; past the table stands an Input of no sort.
+    pub(crate) fn row(self, number: u64) -> Row
+        ensures { decode (row_is result) ≡ node_at (nodes_of self.entry) number }
+    {
+        if number < self.sections.nodes.count as u64 {
+            return row_at(self.words, number as usize);
+        }
+        Row {
+            code: NodeKind::INPUT,
+            sort: 0,
+            a: 0,
+            b: 0,
+            c: 0,
+            name: 0,
         }
     }
-    Judged::Passed
+
+    // The first rule that a node with these operands breaks. Rules 3 and 5 are two answers that only this function reads, each under its name.
+    fn judge_over<const N: usize>(
+        self,
+        node: usize,
+        operands: [u64; N],
+        formed: bool,
+        sorted: bool,
+    ) -> Result<(), Refusal>
+        ensures { judged_of result ≡ first_over (nodes_of self.entry) node operands.entry formed sorted }
+    {
+        if !formed {
+            return Err(Refusal::Malformed(node));
+        }
+        if !are_before(operands, node) {
+            return Err(Refusal::OperandNotBefore(node));
+        }
+        if !(self.all_serve(operands) && sorted) {
+            return Err(Refusal::Sorts(node));
+        }
+        Ok(())
+    }
+
+    fn judge_known(self, row: Node, names: u64, node: usize) -> Result<(), Refusal>
+        ensures { judged_of result ≡ first_broken names (nodes_of self.entry) node (node_is row) }
+    {
+        let formed = row.is_formed(names);
+        let sorted = self.is_sorted(row);
+        match row.kind {
+            NodeKind::Const | NodeKind::Input => self.judge_over(node, [], formed, sorted),
+            NodeKind::State if row.b != 1 => self.judge_over(node, [], formed, sorted),
+            NodeKind::State | NodeKind::Ext | NodeKind::Not | NodeKind::Bad => {
+                self.judge_over(node, [row.a], formed, sorted)
+            }
+            NodeKind::Write | NodeKind::Ite => {
+                self.judge_over(node, [row.a, row.b, row.c], formed, sorted)
+            }
+            NodeKind::Read | NodeKind::Ult | NodeKind::Eq | NodeKind::And | NodeKind::Or => {
+                self.judge_over(node, [row.a, row.b], formed, sorted)
+            }
+            NodeKind::Add | NodeKind::Sub | NodeKind::Mul | NodeKind::Divu | NodeKind::Div => {
+                self.judge_over(node, [row.a, row.b], formed, sorted)
+            }
+            NodeKind::Rem | NodeKind::Sll | NodeKind::Srl | NodeKind::Next => {
+                self.judge_over(node, [row.a, row.b], formed, sorted)
+            }
+        }
+    }
+
+    fn judge_node(self, names: u64, node: usize) -> Result<(), Refusal>
+        requires { node < self.sections.nodes.count }
+        ensures { judged_of result ≡ check_node names (nodes_of self.entry) node (get_or (rows_of self.entry) node row_unknown) }
+    {
+        match Node::try_from(row_at(self.words, node)) {
+            Ok(row) => self.judge_known(row, names, node),
+            Err(_) => Err(Refusal::Malformed(node)),
+        }
+    }
+
+    pub(crate) fn judge_nodes(self, names: u64) -> Result<(), Refusal>
+        ensures { judged_of result ≡ check_nodes names (nodes_of self.entry) 0 (rows_of self.entry) }
+    {
+        for node in 0..self.sections.nodes.count {
+            self.judge_node(names, node)?;
+        }
+        Ok(())
+    }
 }

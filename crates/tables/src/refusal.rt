@@ -2,7 +2,8 @@
 ghost use Rattle.std.specs.Prelude.{◌≡◌};
 ghost use Rattle.tables.specs.Refusals.{refusal_of};
 
-#[derive(Clone, Copy)]
+// Sections are numbers, as in docs/FORMAT.md: whoever makes a refusal may give any word.
+#[derive(Clone, Copy, Debug, PartialEq, Eq)]
 pub enum Refusal {
     // 1: a mode above the highest.
     Mode,

@@ -28,18 +28,3 @@ pub(crate) fn row_at(words: &[u64], node: usize) -> Row
         name: row_word(words, node, Row::NAME),
     }
 }
-
-// The code of a node's kind.
-pub(crate) fn code_at(words: &[u64], number: u64) -> u64
-    requires { HasRow words.now number }
-    ensures { result ≡ (row_at words.now number).code }
-{
-    row_word(words, number as usize, Row::CODE)
-}
-
-pub(crate) fn sort_at(words: &[u64], number: u64) -> u64
-    requires { HasRow words.now number }
-    ensures { result ≡ (row_at words.now number).sort }
-{
-    row_word(words, number as usize, Row::SORT)
-}

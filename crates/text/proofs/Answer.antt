@@ -3,16 +3,14 @@
 --     accepted-is        what is printed of a result's words, also with others after them
 --     accepted-room      a number takes 20 bytes at most, and one more on its line
 -- Assumes nothing.
-use Prim.Native.Nat.{ℕ, zero, suc, ◌+◌, ◌*◌, ◌/◌, ◌%◌, ◌^◌, ◌<◌, ◌≤◌}
+use Prim.Native.Nat.{ℕ, zero, suc, ◌+◌, ◌*◌, ◌^◌, ◌<◌, ◌≤◌}
 use mathlib.Core.Path.{◌≡◌, refl, sym, ap, ap₂, ◌∙◌}
-use mathlib.Core.Bool.{Bool, true, false}
 use mathlib.Core.List.{List, [], ◌∷◌, ◌++◌, append_assoc, flatten}
 use native.Mathlib.Omega.{arith}
 use native.Mathlib.Nat.{zero-add}
 use lib.ListN.{length, get_or, take, drop, length-append, take-append-drop, get_or-append}
 use lib.Seq.{take_at, drop_at, get_or-drop}
-use lib.Dec.{ltb, lit<}
-use borrow.Author.Tests.{ltb-true, ltb-false}
+use lib.Dec.{lit<}
 use Rattle.rules.specs.Model.{Model}
 use Rattle.rules.specs.Whole.{Folded}
 use Rattle.rules.specs.Refusal.{done, refuse}
@@ -21,11 +19,12 @@ use Rattle.rules.specs.Call.{Accepted, words_of}
 use Rattle.rules.specs.Text.{decimal, blanked, line, lines, accepted_word, printed}
 use Rattle.rules.proofs.Flat.{gather-size, marks-size}
 use Rattle.rules.proofs.Room.{question-length}
-use Rattle.text.specs.declared.printer.Place.{Place}
-use Rattle.text.specs.declared.printer.Place.TheVariants.{At}
+use Rattle.std.specs.Prelude.{Some}
+use Rattle.text.specs.declared.printer.Page.{Page as LentPage}
 use Rattle.text.proofs.Laid.{laid-fits}
-use Rattle.text.specs.Printing.{page, laid, section_size, sections_in, result_widths, accepted_text}
-use Rattle.text.proofs.Printing.{decimal-short, decimal_long}
+use Rattle.text.specs.Printing.{page, page_of, laid, section_size, sections_in, result_widths, accepted_text}
+use Rattle.std.proofs.lemmas.Fmt.{length-decimal-le}
+use Rattle.text.proofs.Printing.{decimal_same}
 
 -- ---- sections whose sizes are as their counts say are cut apart again
 abbrev Sized : List ℕ → List (List ℕ) → Type 0
@@ -87,25 +86,8 @@ accepted-is a rest =
     ap (λ ss. accepted_word ++ (10 ∷ lines ss)) (cut-sized result_widths (result_words a.model a.folded) rest (result-sized a.model a.folded))
 
 -- ---- how many bytes are printed
--- 10 to the power of one more
-unfoldable tens : ℕ → ℕ
-tens zero = 10
-tens (suc k) = 10 * tens k
-
-digits_bound : (k x : ℕ) → x < tens k → length (decimal x) ≤ suc k
-unfolding tens
-digits_bound zero x h = rw (decimal-short x h) (omega arith)
-digits_bound (suc k) x h = go (ltb x 10) refl λ l. digits_bound k (x / 10) (omega arith)
-  where
-    go : (b : Bool) → ltb x 10 ≡ b → (10 ≤ x → length (decimal (x / 10)) ≤ suc k) → length (decimal x) ≤ suc (suc k)
-    go true e more = rw (decimal-short x (ltb-true x 10 e)) (omega arith)
-    go false e more =
-        let l : 10 ≤ x = ltb-false x 10 e in
-        rw (decimal_long x l) (omega (arith, more l, length-append (decimal (x / 10)) ((48 + x % 10) ∷ [])))
-
 pub decimal-bound : (x : ℕ) → x < 2 ^ 64 → length (decimal x) ≤ 20
-unfolding tens
-decimal-bound x h = digits_bound 19 x (omega arith)
+decimal-bound x h = omega (arith, length-decimal-le 20 x (lit< tt) (omega arith) h, ap length (decimal_same x h))
 
 -- numbers below 2^64, as the elements of a slice are
 abbrev pub Words : List ℕ → Type 0
@@ -120,7 +102,7 @@ words_take (suc n) (w ∷ ws) h (suc k) = words_take n ws (λ j. h (suc j)) k
 words-drop : (n : ℕ) (ws : List ℕ) → Words ws → Words (drop n ws)
 words-drop n ws h k = rw (get_or-drop n ws k 0) (h (n + k))
 
-blanked-bound : (xs : List ℕ) → Words xs → length (blanked xs) ≤ 21 * length xs
+pub blanked-bound : (xs : List ℕ) → Words xs → length (blanked xs) ≤ 21 * length xs
 unfolding blanked
 blanked-bound [] h = omega arith
 blanked-bound (x ∷ xs) h =
@@ -145,19 +127,20 @@ sections-bound (w ∷ widths) ws h =
 pub accepted-room : (ws : List ℕ) → Words ws → length (accepted_text ws) ≤ 21 * length ws + 18
 accepted-room ws h = omega (arith, sections-bound result_widths ws h)
 
-pub refused-room : (number section position : ℕ) → number < 2 ^ 64 → section < 2 ^ 64 → position < 2 ^ 64 → length (printed (refuse number section position)) ≤ 71
-refused-room number section position h i j =
-    let ns : List ℕ = number ∷ section ∷ position ∷ [] in
-    omega (arith, length-append (blanked ns) (10 ∷ []), blanked-bound ns words)
-  where
-    words : Words (number ∷ section ∷ position ∷ [])
-    words zero = h
-    words (suc zero) = i
-    words (suc (suc zero)) = j
-    words (suc (suc (suc k))) = lit< tt
+pub refused-room : (number section position : ℕ) → length (blanked (number ∷ section ∷ position ∷ [])) ≤ 63 → length (printed (refuse number section position)) ≤ 71
+refused-room number section position h = omega (arith, length-append (blanked (number ∷ section ∷ position ∷ [])) (10 ∷ []))
 
--- where there is room, all of it is printed
-pub place_after : (entry exit bs : List ℕ) (place : Place) → page exit place ≡ laid (page entry (At 0)) bs → length bs ≤ length entry → place ≡ At (length bs)
-place_after entry exit bs place e h =
-    let f : page exit place ≡ page (take 0 entry ++ bs ++ drop (0 + length bs) entry) (At (0 + length bs)) = e ∙ laid-fits bs entry 0 (omega arith) in
-    ap (λ p. p.place) f ∙ ap At (zero-add (length bs))
+-- ---- a page that was begun at a buffer's front, once the bytes are printed
+module _ (begun p : LentPage) (entry bs : List ℕ) (new : page_of begun ≡ page entry (Some 0)) (all : page_of p ≡ laid (page_of begun) bs) where
+  from-front : page_of p ≡ laid (page entry (Some 0)) bs
+  from-front = all ∙ ap (λ q. laid q bs) new
+
+  -- what it left behind in the buffer
+  pub left_behind : (exit : List ℕ) → exit ≡ p.out.now → page exit p.place ≡ laid (page entry (Some 0)) bs
+  left_behind exit e = ap (λ l. page l p.place) e ∙ from-front
+
+  -- where there is room, all of it is printed
+  pub place_after : length bs ≤ length entry → p.place ≡ Some (length bs)
+  place_after h =
+      let f : page_of p ≡ page (take 0 entry ++ bs ++ drop (0 + length bs) entry) (Some (0 + length bs)) = from-front ∙ laid-fits bs entry 0 (omega arith) in
+      ap (λ q. q.place) f ∙ ap Some (zero-add (length bs))

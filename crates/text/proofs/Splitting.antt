@@ -1,20 +1,22 @@
 -- Splitting, one case each: the lengths of the names, and their bytes.
 -- By the rules' laws of one name at a place; a name's values are the numbers after its length.
 --     lengths-*          a loop over the lengths of the names
---     bytes-*            a loop over byte values
+--     count-put, value-put   the names bytes, as they are written one after the other
 --     after-*            the names after their count
 -- Assumes nothing.
-use Prim.Native.Nat.{ℕ, zero, suc, ◌+◌, ◌-◌, ◌<◌, ◌≤◌}
-use mathlib.Core.Path.{◌≡◌, refl, sym, ap, ap₂, ◌∙◌, subst}
+use Prim.Native.Nat.{ℕ, zero, suc, min, ◌+◌, ◌-◌, ◌<◌, ◌≤◌}
+use mathlib.Core.Path.{◌≡◌, refl, sym, ap, ap₂, ◌∙◌}
+use mathlib.Core.Logic.{◌⊎◌, inl, inr}
 use mathlib.Core.Bool.{Bool, true, false, ◌&&◌}
 use mathlib.Core.Option.{none, some}
 use mathlib.Core.List.{List, [], ◌∷◌, ◌++◌}
 use native.Mathlib.Omega.{arith}
 use native.Mathlib.Numerals.{add-one}
-use lib.ListN.{length, get_or, take, drop, set, length-drop, drop_of_length-le, take-append-drop}
-use lib.Seq.{drop-cons, take-suc, take-suc-set, take_all, take-nil, take_at, length-take-le, drop-set-lt, drop-drop}
+use lib.ListN.{length, get_or, take, drop, set, length-drop}
+use lib.Seq.{take-suc, take-suc-set, take_at, drop-set-lt, drop-drop}
+use Rattle.std.proofs.lemmas.List.{length-take, take_min}
 use lib.Dec.{ltb}
-use borrow.Author.Tests.{ltb-true, lt-ltb, le-ltb}
+use borrow.Author.Tests.{ltb-true, lt-ltb}
 use Rattle.rules.specs.Refusal.{Refusal, Out, refused, done, refuse, ◌>>=◌}
 use Rattle.rules.specs.Lists.{All}
 use Rattle.rules.specs.Limits.{house}
@@ -23,11 +25,9 @@ use Rattle.rules.specs.Text.{all_bytes, all_name_bytes, judge_bytes, names_in_nu
 use Rattle.rules.proofs.Names.{names-over, names-within, counted_names_done}
 use Rattle.rules.proofs.NameWalk as walk
 use Rattle.rules.proofs.NameWalk.{fault, fault_from}
-use Rattle.text.specs.declared.split.Judged.{Judged}
-use Rattle.text.specs.declared.split.Names.{Names}
 use Rattle.rules.proofs.Base.{and_both}
 use Rattle.text.specs.Front.{on_front}
-use Rattle.text.specs.Splitting.{Judges, cut_all, counted, bytes_after, Lent, bytes_in}
+use Rattle.text.specs.Splitting.{cut_all, counted, bytes_after, bytes_in}
 
 -- ---- the lengths of the names: so many are left, from a place on
 fault-none : {A : Type 0} (o : Out A) → fault o ≡ none → (x : A) × (o ≡ done x)
@@ -38,60 +38,56 @@ fault-some : {A : Type 0} (o : Out A) (r : Refusal) → fault o ≡ some r → o
 fault-some (done x) r e = let z : ◌≡◌ {A = ℕ} 0 1 = cc in let o : ⊥ = omega arith in absurd o
 fault-some (refused q) r e = cc
 
-pub lengths_none : (xs : List ℕ) (count : ℕ) → fault_from house xs count 0 ≡ fault (cut_all house count xs)
+pub lengths_none : (xs : List ℕ) (count : ℕ) → fault_from house xs (count - 0) 0 ≡ fault (cut_all house count xs)
 unfolding fault_from
-lengths_none xs count = refl
+lengths_none xs count = ap (λ n. fault (cut_all house n xs)) (omega arith)
 
-module _ (xs : List ℕ) (count left at : ℕ) (same : fault_from house xs left at ≡ fault (cut_all house count xs)) where
-  pub lengths_end : left ≤ 0 → length xs ≤ at → (x : List (List ℕ)) × (cut_all house count xs ≡ done x)
+module _ (xs rest : List ℕ) (count left : ℕ) (same : fault_from house rest left 0 ≡ fault (cut_all house count xs)) where
+  pub lengths_end : left ≤ 0 → length rest ≤ 0 → (x : List (List ℕ)) × (cut_all house count xs ≡ done x)
   lengths_end h l =
       let e : left ≡ 0 = omega arith in
-      fault-none (cut_all house count xs) (sym same ∙ ap (λ n. fault_from house xs n at) e ∙ walk.end_at house xs at l)
+      fault-none (cut_all house count xs) (sym same ∙ ap (λ n. fault_from house rest n 0) e ∙ walk.end_at house rest 0 l)
 
-  pub lengths_left : left ≤ 0 → at < length xs → cut_all house count xs ≡ refuse 1 7 0
+  pub lengths_left : left ≤ 0 → 0 < length rest → cut_all house count xs ≡ refuse 1 7 0
   lengths_left h l =
       let e : left ≡ 0 = omega arith in
-      fault-some (cut_all house count xs) _ (sym same ∙ ap (λ n. fault_from house xs n at) e ∙ walk.left_at house xs at l)
+      fault-some (cut_all house count xs) _ (sym same ∙ ap (λ n. fault_from house rest n 0) e ∙ walk.left_at house rest 0 l)
 
   module _ (more : 0 < left) where
     one : left ≡ suc (left - 1)
     one = omega arith
 
-    pub lengths_missing : length xs ≤ at → cut_all house count xs ≡ refuse 1 7 0
-    lengths_missing l = fault-some (cut_all house count xs) _ (sym same ∙ ap (λ n. fault_from house xs n at) one ∙ walk.missing_at house xs (left - 1) at l)
+    pub lengths_missing : length rest ≤ 0 → cut_all house count xs ≡ refuse 1 7 0
+    lengths_missing l = fault-some (cut_all house count xs) _ (sym same ∙ ap (λ n. fault_from house rest n 0) one ∙ walk.missing_at house rest (left - 1) 0 l)
 
-    module _ (inside : at < length xs) where
-      pub lengths_over : 64 < get_or xs at 0 → cut_all house count xs ≡ refuse 2 7 0
-      lengths_over h = fault-some (cut_all house count xs) _ (sym same ∙ ap (λ n. fault_from house xs n at) one ∙ walk.over-at house xs (left - 1) at inside h)
+    -- the next name's length, and what follows it
+    module _ (size : ℕ) (after : List ℕ) (is : rest ≡ size ∷ after) where
+      inside : 0 < length rest
+      inside = omega (arith, ap length is)
 
-      pub lengths_short : get_or xs at 0 ≤ 64 → length xs < at + 1 + get_or xs at 0 → cut_all house count xs ≡ refuse 1 7 0
+      first : get_or rest 0 0 ≡ size
+      first = ap (λ l. get_or l 0 0) is
+
+      pub lengths_over : 64 < size → cut_all house count xs ≡ refuse 2 7 0
+      lengths_over h =
+          fault-some (cut_all house count xs) _ (sym same ∙ ap (λ n. fault_from house rest n 0) one ∙ walk.over-at house rest (left - 1) 0 inside (omega (arith, first)))
+
+      pub lengths_short : size ≤ 64 → length after < size → cut_all house count xs ≡ refuse 1 7 0
       lengths_short h l =
-          fault-some (cut_all house count xs) _ (sym same ∙ ap (λ n. fault_from house xs n at) one ∙ walk.short-at house xs (left - 1) at inside h l)
+          fault-some (cut_all house count xs) _
+          (sym same ∙ ap (λ n. fault_from house rest n 0) one ∙ walk.short-at house rest (left - 1) 0 inside (omega (arith, first)) (omega (arith, first, ap length is)))
 
-      pub lengths_next : get_or xs at 0 ≤ 64 → at + 1 + get_or xs at 0 ≤ length xs
-          → fault_from house xs (left - 1) (at + 1 + get_or xs at 0) ≡ fault (cut_all house count xs)
-      lengths_next h l = sym (walk.whole-at house xs (left - 1) at inside h l) ∙ ap (λ n. fault_from house xs n at) (sym one) ∙ same
+      pub lengths_next : (back : List ℕ) (others : ℕ) → back ≡ drop size after → others ≡ left - 1 → size ≤ 64 → size ≤ length after
+          → fault_from house back others 0 ≡ fault (cut_all house count xs)
+      unfolding fault_from
+      lengths_next back others e f h l =
+          let place : 0 + 1 + get_or rest 0 0 ≡ suc size = omega (arith, first) in
+          let next : drop (0 + 1 + get_or rest 0 0) rest ≡ back = ap₂ drop place is ∙ sym e in
+          ap₂ (λ n l. fault (cut_all house n l)) f (sym next)
+          ∙ sym (walk.whole-at house rest (left - 1) 0 inside (omega (arith, first)) (omega (arith, first, ap length is)))
+          ∙ ap (λ n. fault_from house rest n 0) (sym one) ∙ same
 
--- what was judged, by the case that it is
-pub judged_as : {A : Type 0} (j k : Judged) (o : Out A) → j ≡ k → Judges j o → Judges k o
-judged_as j k o e h = subst (λ i. Judges i o) e h
-
--- ---- byte values, from place i on
-module _ (xs : List ℕ) (i : ℕ) (same : all_bytes (drop i xs) ≡ all_bytes xs) where
-  pub bytes-over : i < length xs → 256 ≤ get_or xs i 0 → false ≡ all_bytes xs
-  unfolding all_bytes
-  bytes-over h l = sym (ap (λ b. b && all_bytes (drop (suc i) xs)) (le-ltb (get_or xs i 0) 256 l)) ∙ ap all_bytes (sym (drop-cons xs i 0 h)) ∙ same
-
-  pub bytes_next : i < length xs → get_or xs i 0 < 256 → all_bytes (drop (i + 1) xs) ≡ all_bytes xs
-  unfolding all_bytes
-  bytes_next h l =
-      ap (λ n. all_bytes (drop n xs)) (add-one i) ∙ sym (ap (λ b. b && all_bytes (drop (suc i) xs)) (lt-ltb (get_or xs i 0) 256 l))
-      ∙ ap all_bytes (sym (drop-cons xs i 0 h)) ∙ same
-
-  pub bytes-all : length xs ≤ i → true ≡ all_bytes xs
-  unfolding all_bytes
-  bytes-all h = ap all_bytes (sym (drop_of_length-le xs h)) ∙ same
-
+-- ---- byte values
 -- each of them is a byte
 pub byte_at : (xs : List ℕ) (i : ℕ) → all_bytes xs ≡ true → i < length xs → get_or xs i 0 < 256
 unfolding all_bytes
@@ -118,13 +114,6 @@ rest_put out begun i v e =
     let n : i + 1 + 2 ≡ i + 2 + 1 = omega arith in
     drop-set-lt (i + 1 + 2) out (i + 2) v (omega arith) ∙ ap (λ n. drop n out) n ∙ sym (drop-drop 1 (i + 2) out) ∙ ap (λ l. drop 1 l) e ∙ drop-drop 1 (i + 2) begun
     ∙ ap (λ n. drop n begun) (sym n)
-
-pub values-put : (out entry values : List ℕ) (count i low high : ℕ) → take (i + 2) out ≡ counted count (take i values) → drop (i + 2) out ≡ drop (i + 2) (set (set entry 0 low) 1 high)
-    → i ≤ length values → length values ≤ i → out ≡ on_front (done (counted count values)) entry
-values-put out entry values count i low high e f h l =
-    let n : i + 2 ≡ suc (suc (length values)) = omega arith in
-    sym (take-append-drop (i + 2) out)
-    ∙ ap₂ ◌++◌ (e ∙ ap (λ l. counted count l) (take_all i values l)) (f ∙ drop-set-lt (i + 2) (set entry 0 low) 1 high (omega arith) ∙ drop-set-lt (i + 2) entry 0 low (omega arith) ∙ ap (λ n. drop n entry) n)
 
 -- so many bytes of them
 pub counted-front : (count : ℕ) (values entry : List ℕ) → take (length values + 2) (on_front (done (counted count values)) entry) ≡ counted count values
@@ -155,8 +144,8 @@ module _ (count : ℕ) (values : List ℕ) where
   after-over h = ap (λ o. o >>= judge_bytes >>= λ names. done (name_bytes names)) (names-over house count values h)
 
   module _ (within : count ≤ 4096) where
-    pub after-refused : (reason : ℕ) → cut_all house count values ≡ refuse reason 7 0 → bytes_after house count values ≡ refuse reason 7 0
-    after-refused reason e = ap (λ o. o >>= judge_bytes >>= λ names. done (name_bytes names)) (names-within house count values within ∙ e)
+    pub after-refused : (r : Refusal) → cut_all house count values ≡ refused r → bytes_after house count values ≡ refused r
+    after-refused r e = ap (λ o. o >>= judge_bytes >>= λ names. done (name_bytes names)) (names-within house count values within ∙ e)
 
     module _ (names : List (List ℕ)) (whole : cut_all house count values ≡ done names) where
       found : counted_names house count values ≡ done names
@@ -177,34 +166,18 @@ module _ (count : ℕ) (values : List ℕ) where
           (ap₂ (λ n l. done (counted n l)) d.1 d.0)
 
 -- ---- the names in numbers
-pub in-none : (xs : List ℕ) → length xs ≡ 0 → bytes_in house xs ≡ refuse 1 7 0
+in-none : (xs : List ℕ) → length xs ≡ 0 → bytes_in house xs ≡ refuse 1 7 0
 unfolding names_in_numbers
 in-none [] h = refl
 in-none (x ∷ xs) h = let o : ⊥ = omega arith in absurd o
 
-pub in_some : (xs : List ℕ) → (length xs ≡ 0 → ⊥) → bytes_after house (get_or xs 0 0) (take (length xs - 1) (drop 1 xs)) ≡ bytes_in house xs
-unfolding names_in_numbers
-in_some [] h = let o : ⊥ = h refl in absurd o
-in_some (x ∷ xs) h = ap (λ l. bytes_after house x l) (take_all (suc (length xs) - 1) xs (omega arith))
+-- ---- the numbers from one place to another, or to the end where the second place is past it
+module _ (xs : List ℕ) (from to end : ℕ) (e : end ≡ min to 4096) (size : length xs ≡ 4096) where
+  pub part_none : (end < from) ⊎ (length xs < end) → bytes_in house (take (to - from) (drop from xs)) ≡ refuse 1 7 0
+  part_none (inl h) = in-none (take (to - from) (drop from xs)) (omega (arith, length-take (to - from) (drop from xs), length-drop from xs))
+  part_none (inr h) = let o : ⊥ = omega arith in absurd o
 
--- the numbers after the count
-pub rest-size : (xs : List ℕ) → length (take (length xs - 1) (drop 1 xs)) ≡ length xs - 1
-rest-size xs = length-take-le (length xs - 1) (drop 1 xs) (omega (arith, length-drop 1 xs))
-
--- ---- the numbers from one place to another
-module _ (xs : List ℕ) (from to : ℕ) where
-  pub part-past : length xs ≤ from → bytes_in house (take (to - from) (drop from xs)) ≡ refuse 1 7 0
-  part-past h = ap (λ l. bytes_in house (take (to - from) l)) (drop_of_length-le xs h) ∙ ap (λ l. bytes_in house l) (take-nil (to - from)) ∙ in-none [] refl
-
-  pub part_none : to ≤ from → bytes_in house (take (to - from) (drop from xs)) ≡ refuse 1 7 0
-  part_none h =
-      let e : to - from ≡ 0 = omega arith in
-      ap (λ n. bytes_in house (take n (drop from xs))) e ∙ in-none [] refl
-
-  -- to the end, where the second place is past it
-  pub part-rest : length xs ≤ to → take (length xs - from) (drop from xs) ≡ take (to - from) (drop from xs)
-  part-rest h =
-      take_all (length xs - from) (drop from xs) (omega (arith, length-drop from xs)) ∙ sym (take_all (to - from) (drop from xs) (omega (arith, length-drop from xs)))
-
-pub lent_in : (r : Names) (room size : ℕ) → room ≡ size → Lent r room → Lent r size
-lent_in r room size e h = subst (λ n. Lent r n) e h
+  pub part_some : take (end - from) (drop from xs) ≡ take (to - from) (drop from xs)
+  part_some =
+      let n : end - from ≡ min (to - from) (length (drop from xs)) = omega (arith, length-drop from xs) in
+      ap (λ n. take n (drop from xs)) n ∙ take_min (to - from) (drop from xs)

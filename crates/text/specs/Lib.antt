@@ -1,4 +1,5 @@
 pub mod Front
 pub mod Reading
+pub mod Refused
 pub mod Printing
 pub mod Splitting

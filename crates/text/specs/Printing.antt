@@ -3,26 +3,29 @@
 --     sections_in         the sections that words hold, each with its count first
 --     accepted_text       what is printed of the words of a result (proofs/Printing: it is what the rules print)
 -- Assumes nothing.
-use Rattle.std.specs.Prelude.{ℕ, ◌+◌, ◌*◌, ◌≤◌, ◌≡◌, true, false, List, [], ◌∷◌, ◌++◌, length, get_or, take, drop, set, ltb}
+use Rattle.std.specs.Prelude.{Option, Some, None, ℕ, ◌+◌, ◌*◌, ◌≤◌, ◌≡◌, true, false, List, [], ◌∷◌, ◌++◌, length, get_or, take, drop, set, ltb}
 use Rattle.rules.specs.Text.{lines, accepted_word}
-use Rattle.text.specs.declared.printer.Place.{Place}
-use Rattle.text.specs.declared.printer.Place.TheVariants.{At, Full}
+use Rattle.text.specs.declared.printer.Page.{Page as LentPage}
 
 -- a buffer, and where the next byte goes
 pub record Page : Type 0 where
   pub bytes : List ℕ
-  pub place : Place
+  pub place : Option ℕ
 
-abbrev pub page : List ℕ → Place → Page
+abbrev pub page : List ℕ → Option ℕ → Page
 page bytes place = record { bytes = bytes; place = place }
+
+-- a page of the code, as its buffer has it
+abbrev pub page_of : LentPage → Page
+page_of p = page p.out.now p.place
 
 -- a byte at a place of the buffer, and the next place; past the buffer's end nothing is written
 unfoldable pub put_at : List ℕ → ℕ → ℕ → Page
-put_at bytes at b = elim (ltb at (length bytes)) [ true ↦ page (set bytes at b) (At (at + 1)) | false ↦ page bytes Full ]
+put_at bytes at b = elim (ltb at (length bytes)) [ true ↦ page (set bytes at b) (Some (at + 1)) | false ↦ page bytes None ]
 
-abbrev pub put_byte : List ℕ → Place → ℕ → Page
-put_byte bytes (At at) b = put_at bytes at b
-put_byte bytes Full b = page bytes Full
+abbrev pub put_byte : List ℕ → Option ℕ → ℕ → Page
+put_byte bytes (Some at) b = put_at bytes at b
+put_byte bytes None b = page bytes None
 
 -- one byte after the other: those that fit are written, and nothing else is
 unfoldable pub laid : Page → List ℕ → Page

@@ -2,57 +2,49 @@
 --     end_of, rest_of      where the sections end, or the refusal; the numbers after the sections, or the refusal
 --     names_of, bytes_in   the names bytes, or the refusal; the same as the rules have it
 -- Assumes nothing.
-use Rattle.std.specs.Prelude.{ℕ, ◌/◌, ◌%◌, ◌≤◌, ◌≡◌, List, ◌∷◌, length, take, drop}
-use Rattle.rules.specs.Refusal.{Out, refused, done, refuse, ◌>>=◌}
+use Rattle.std.specs.Prelude.{ℕ, ◌/◌, ◌%◌, ◌≤◌, ◌≡◌, List, ◌∷◌, length, take, drop, Result, Ok, Err}
+use Rattle.rules.specs.Refusal.{Out, refused, done, ◌>>=◌}
 use Rattle.rules.specs.Limits.{Limits}
 use Rattle.rules.specs.Sections.{cut_six, none_left}
 use Rattle.rules.specs.Names.{cut_names, counted_names, name_bytes}
 use Rattle.rules.specs.Text.{judge_bytes, names_in_numbers}
 use Rattle.tables.specs.Refusals.{refusal_of}
-use Rattle.text.specs.declared.split.End.{End}
-use Rattle.text.specs.declared.split.End.TheVariants.{At, Refused}
-use Rattle.text.specs.declared.split.Judged.{Judged}
-use Rattle.text.specs.declared.split.Judged.TheVariants.{Whole, Over as JudgedOver, Short as JudgedShort}
-use Rattle.text.specs.declared.split.Names.{Names}
-use Rattle.text.specs.declared.split.Names.TheVariants.{Bytes, NamesOver, NamesShort}
+use Rattle.tables.specs.declared.refusal.Refusal.{Refusal}
 
 -- ---- sections 1 to 6
 -- what follows the place, or the refusal
-abbrev pub end_of : End → List ℕ → Out (List ℕ)
-end_of (At end) ws = done (drop end ws)
-end_of (Refused r) ws = refused (refusal_of r)
+abbrev pub end_of : Result ℕ Refusal → List ℕ → Out (List ℕ)
+end_of (Ok end) ws = done (drop end ws)
+end_of (Err why) ws = refused (refusal_of why)
 
 -- a place is one of the words, or their end
-abbrev pub Inside : End → List ℕ → Type 0
-Inside (At end) ws = end ≤ length ws
-Inside (Refused r) ws = Unit
+abbrev pub Inside : Result ℕ Refusal → List ℕ → Type 0
+Inside (Ok end) ws = end ≤ length ws
+Inside (Err why) ws = Unit
 
 -- the numbers after the six sections
 abbrev pub rest_of : Limits → List ℕ → Out (List ℕ)
 rest_of limits ws = cut_six limits ws >>= λ p. done p.1
 
 -- ---- names
--- the bytes at the front of the buffer, or the refusal, of section 7: 2 for a count or a length over its limit, else 1
-abbrev pub names_of : Names → List ℕ → Out (List ℕ)
-names_of (Bytes n) bytes = done (take n bytes)
-names_of NamesOver bytes = refuse 2 7 0
-names_of NamesShort bytes = refuse 1 7 0
+-- the bytes at the front of the buffer, or the refusal
+abbrev pub names_of : Result ℕ Refusal → List ℕ → Out (List ℕ)
+names_of (Ok n) bytes = done (take n bytes)
+names_of (Err why) bytes = refused (refusal_of why)
 
 -- so many bytes as the buffer has, at most
-abbrev pub Lent : Names → ℕ → Type 0
-Lent (Bytes n) room = n ≤ room
-Lent NamesOver room = Unit
-Lent NamesShort room = Unit
+abbrev pub Lent : Result ℕ Refusal → ℕ → Type 0
+Lent (Ok n) room = n ≤ room
+Lent (Err why) room = Unit
 
 -- so many names, and nothing after them
 abbrev pub cut_all : Limits → ℕ → List ℕ → Out (List (List ℕ))
 cut_all limits count values = cut_names limits count values >>= λ p. none_left 7 p.0 p.1
 
--- a judgement is right of an outcome: something, or refusal 2 or 1 of section 7
-abbrev pub Judges : {A : Type 0} → Judged → Out A → Type 0
-Judges {A} Whole o = (x : A) × (o ≡ done x)
-Judges JudgedOver o = o ≡ refuse 2 7 0
-Judges JudgedShort o = o ≡ refuse 1 7 0
+-- a judgement is right of an outcome: something, or the refusal
+abbrev pub Judges : {A : Type 0} → Result Unit Refusal → Out A → Type 0
+Judges {A} (Ok _) o = (x : A) × (o ≡ done x)
+Judges (Err why) o = o ≡ refused (refusal_of why)
 
 -- "a two-byte count, low byte first", and the values as they are
 abbrev pub counted : ℕ → List ℕ → List ℕ

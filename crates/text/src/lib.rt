@@ -3,5 +3,6 @@
 #![tactic(auto)]
 
 pub mod reader; // reader.rt: decimal numbers, fed chunk by chunk
+pub mod refused; // refused.rt: a refusal as it is printed
 pub mod printer; // printer.rt: numbers, lines and the program's answer, into a lent buffer
 pub mod split; // split.rt: the numbers as sections 1 to 6 and names bytes

@@ -1,139 +1,146 @@
-// Numbers, lines and the program's answer, printed into a lent buffer from a place on. Each function answers the next place. What does
-// not fit is not written: the buffer then holds the bytes up to its end, the answer is Full, and printing at Full writes nothing.
-ghost use Rattle.std.specs.Prelude.{◌≡◌, [], ◌∷◌, ◌+◌, ◌*◌, ◌<◌, ◌≤◌, length};
-ghost use Rattle.rules.specs.Refusal.{refuse};
+// Numbers, lines and the program's answer, printed on a page: a lent buffer and the place where the next byte goes. What does not fit is not
+// written: the buffer then holds the bytes up to its end, the page is full, and printing on a full page writes nothing.
+ghost use Rattle.std.specs.Prelude.{◌≡◌, [], ◌∷◌, ◌+◌, ◌*◌, ◌≤◌, length};
+ghost use Rattle.rules.specs.Refusal.{refused};
 ghost use Rattle.rules.specs.Text.{decimal, blanked, line, lines, printed};
-ghost use Rattle.text.specs.Printing.{page, put_at, laid, SectionEnds, sections_in, result_widths, accepted_text};
+ghost use Rattle.text.specs.Refused.{refused_is};
+ghost use Rattle.text.specs.Printing.{page, page_of, laid, SectionEnds, sections_in, result_widths, accepted_text};
 
-// Where the next byte goes, or that there was no room.
-#[derive(Clone, Copy)]
-pub enum Place {
-    At(usize),
-    Full,
-}
+use crate::refused::Refused;
+use itoa::Buffer;
 
 // How many words each entry of a result section has: nodes, made constants, replacements, three lists, inputs left, questions, the tally.
 const WIDTHS: [u64; 9] = [6, 2, 2, 1, 1, 1, 1, 4, 1];
 
-fn put_at(out: &mut [u8], at: usize, b: u8) -> Place
-    ensures { page out.new result ≡ put_at out.old at b }
-{
-    if at >= out.len() {
-        return Place::Full;
-    }
-    out[at] = b;
-    Place::At(at + 1)
+// A buffer, and where the next byte goes, or that there was no room.
+#[derive(Drop)]
+pub struct Page<'a> {
+    pub out: &'a mut [u8],
+    pub place: Option<usize>,
 }
 
-// One byte.
-pub fn print_byte(out: &mut [u8], place: Place, b: u8) -> Place
-    ensures { page out.new result ≡ laid (page out.old place) (b ∷ []) }
-{
-    match place {
-        Place::At(at) => put_at(out, at, b),
-        Place::Full => Place::Full,
+impl<'a> Page<'a> {
+    // At the buffer's front. Which buffer it is (`same_buffer`) stands in each contract: a lent field has it from there alone.
+    pub fn new(out: &'a mut [u8]) -> Page<'a>
+        ensures page { page_of result ≡ page out.old (Some 0) }
+        ensures same_buffer { result.out.ghost_name ≡ out.entry.ghost_name }
+    {
+        Page {
+            out,
+            place: Some(0),
+        }
     }
-}
 
-// Bytes as they are.
-pub fn print_bytes(out: &mut [u8], place: Place, bytes: &[u8]) -> Place
-    ensures { page out.new result ≡ laid (page out.old place) bytes.now }
-{
-    let mut next = place;
-    let mut i = 0;
-    while i < bytes.len() {
-        next = print_byte(out, next, bytes[i]);
-        i += 1;
+    // One byte.
+    #[tactic(auto, unfolding(crate::specs::Printing::laid, crate::specs::Printing::put_at))]
+    pub fn byte(&mut self, b: u8)
+        ensures printed { page_of self.new ≡ laid (page_of self.old) (b ∷ []) }
+        ensures same_buffer { self.new.out.ghost_name ≡ self.old.out.ghost_name }
+    {
+        let Some(at) = self.place else {
+            return;
+        };
+        if at >= self.out.len() {
+            self.place = None;
+            return;
+        }
+        self.out[at] = b;
+        self.place = Some(at + 1);
     }
-    next
-}
 
-// A number in decimal digits, without leading zeros.
-pub fn print_number(out: &mut [u8], place: Place, x: u64) -> Place
-    ensures { page out.new result ≡ laid (page out.old place) (decimal x) }
-{
-    if x < 10 {
-        return print_byte(out, place, (48 + x) as u8);
+    // Bytes as they are.
+    #[tactic(auto, unfolding(crate::specs::Printing::laid))]
+    pub fn bytes(&mut self, bytes: &[u8])
+        ensures printed { page_of self.new ≡ laid (page_of self.old) bytes.now }
+        ensures same_buffer { self.new.out.ghost_name ≡ self.old.out.ghost_name }
+    {
+        for &b in bytes {
+            self.byte(b);
+        }
     }
-    let last = print_number(out, place, x / 10);
-    print_byte(out, last, (48 + x % 10) as u8)
-}
 
-// Each number after a blank.
-pub fn print_blanked(out: &mut [u8], place: Place, numbers: &[u64]) -> Place
-    ensures { page out.new result ≡ laid (page out.old place) (blanked numbers.now) }
-{
-    let mut next = place;
-    let mut i = 0;
-    while i < numbers.len() {
-        next = print_byte(out, next, 32);
-        next = print_number(out, next, numbers[i]);
-        i += 1;
+    // A number in decimal digits, without leading zeros.
+    #[tactic(auto, using(crate::proofs::Printing::decimal_same))]
+    pub fn number(&mut self, x: u64)
+        ensures printed { page_of self.new ≡ laid (page_of self.old) (decimal x) }
+        ensures same_buffer { self.new.out.ghost_name ≡ self.old.out.ghost_name }
+    {
+        let mut digits = Buffer::new();
+        self.bytes(digits.format(x).as_bytes());
     }
-    next
-}
 
-// Numbers on one line.
-pub fn print_line(out: &mut [u8], place: Place, numbers: &[u64]) -> Place
-    ensures { page out.new result ≡ laid (page out.old place) (line numbers.now) }
-{
-    if numbers.len() == 0 {
-        return print_byte(out, place, 10);
+    // Each number after a blank, 21 bytes at most.
+    #[tactic(auto, unfolding(crate::specs::Printing::laid, rules::specs::Text::blanked))]
+    pub fn blanked(&mut self, numbers: &[u64])
+        ensures printed { page_of self.new ≡ laid (page_of self.old) (blanked numbers.now) }
+        ensures short { length (blanked numbers.now) ≤ 21 * length numbers.now }
+        ensures same_buffer { self.new.out.ghost_name ≡ self.old.out.ghost_name }
+    {
+        for &x in numbers {
+            self.byte(b' ');
+            self.number(x);
+        }
     }
-    let first = print_number(out, place, numbers[0]);
-    let last = print_blanked(out, first, &numbers[1..]);
-    print_byte(out, last, 10)
+
+    // Numbers on one line.
+    #[tactic(auto, using(crate::proofs::Laid::laid_append), unfolding(crate::specs::Printing::laid, rules::specs::Text::blanked))]
+    pub fn line(&mut self, numbers: &[u64])
+        ensures printed { page_of self.new ≡ laid (page_of self.old) (line numbers.now) }
+        ensures same_buffer { self.new.out.ghost_name ≡ self.old.out.ghost_name }
+    {
+        if let Some((&first, others)) = numbers.split_first() {
+            self.number(first);
+            self.blanked(others);
+        }
+        self.byte(b'\n');
+    }
+
+    // The sections of a result, each on a line of its own.
+    #[tactic(auto, unfolding(crate::specs::Printing::laid, rules::specs::Text::lines, crate::specs::Printing::sections_in))]
+    pub fn sections(&mut self, words: &[u64])
+        ensures printed { page_of self.new ≡ laid (page_of self.old) (lines (sections_in result_widths words.now)) }
+        ensures same_buffer { self.new.out.ghost_name ≡ self.old.out.ghost_name }
+    {
+        let mut rest = words;
+        for width in WIDTHS {
+            let (section, after) = rest.split_at(section_size(rest, width));
+            self.line(section);
+            rest = after;
+        }
+    }
 }
 
 // How many words of the front are a section: its count, and so many words for each that is counted, as far as there are words.
 fn section_size(words: &[u64], width: u64) -> usize
-    requires { 0 < width }
     ensures { SectionEnds width words.now result }
 {
-    if words.len() == 0 {
+    let Some(&count) = words.first() else {
         return 0;
-    }
-    let most = (words.len() - 1) as u64;
-    let count = words[0];
-    if count > most / width {
-        return words.len();
-    }
-    (1 + width * count) as usize
+    };
+    let size = width.saturating_mul(count).saturating_add(1);
+    size.min(words.len() as u64) as usize
 }
 
-// The sections of a result, each on a line of its own.
-pub fn print_sections(out: &mut [u8], place: Place, words: &[u64]) -> Place
-    ensures { page out.new result ≡ laid (page out.old place) (lines (sections_in result_widths words.now)) }
+// `accepted` and a line per result section: the words of a result, which may be followed by others, from the buffer's front on. It tells
+// where the text ends, if it fits. A word takes 21 bytes at most, so 86,034 bytes are room for 4,096 words.
+pub fn print_accepted(out: &mut [u8], words: &[u64]) -> Option<usize>
+    ensures result_after { page out.new result ≡ laid (page out.old (Some 0)) (accepted_text words.now) }
+    ensures room { 21 * length words.now + 18 ≤ length out.old → result ≡ Some (length (accepted_text words.now)) }
 {
-    let mut next = place;
-    let mut at = 0;
-    let mut k = 0;
-    while k < 9 {
-        let size = section_size(&words[at..], WIDTHS[k]);
-        next = print_line(out, next, &words[at..at + size]);
-        at += size;
-        k += 1;
-    }
-    next
+    let mut page = Page::new(out);
+    page.bytes(b"accepted\n");
+    page.sections(words);
+    page.place
 }
 
-// `accepted` and a line per result section: the words of a result, which may be followed by others, from the buffer's front on. A word
-// takes 21 bytes at most, so 86,034 bytes are room for 4,096 words.
-pub fn print_accepted(out: &mut [u8], words: &[u64]) -> Place
-    ensures result_after { page out.new result ≡ laid (page out.old (Place.At 0)) (accepted_text words.now) }
-    ensures room { 21 * length words.now + 18 ≤ length out.old → result ≡ Place.At (length (accepted_text words.now)) }
+// `refused` and three numbers on one line, from the buffer's front on. It tells where the text ends, if it fits.
+pub fn print_refused(out: &mut [u8], why: Refused) -> Option<usize>
+    ensures result_after { page out.new result ≡ laid (page out.old (Some 0)) (printed (refused (refused_is why))) }
+    ensures room { 71 ≤ length out.old → result ≡ Some (length (printed (refused (refused_is why)))) }
 {
-    let first = print_bytes(out, Place::At(0), b"accepted\n");
-    print_sections(out, first, words)
-}
-
-// `refused` and three numbers on one line, from the buffer's front on.
-pub fn print_refused(out: &mut [u8], number: u64, section: u64, position: u64) -> Place
-    ensures result_after { page out.new result ≡ laid (page out.old (Place.At 0)) (printed (refuse number section position)) }
-    ensures room { 71 ≤ length out.old → result ≡ Place.At (length (printed (refuse number section position))) }
-{
-    let carried = [number, section, position];
-    let first = print_bytes(out, Place::At(0), b"refused");
-    let last = print_blanked(out, first, &carried);
-    print_byte(out, last, 10)
+    let mut page = Page::new(out);
+    page.bytes(b"refused");
+    page.blanked(&[why.number, why.section, why.position]);
+    page.byte(b'\n');
+    page.place
 }

@@ -1,24 +1,21 @@
 -- The rules' judgement by the reply.
 -- Assumes nothing.
+use mathlib.Core.Path.{refl}
 use Rattle.optimize.specs.Bads.{retained_of}
-use Rattle.optimize.specs.View.{view}
-use Rattle.optimize.proofs.BadLaws.{reply_drops, reply_refuses, reply-keeps, reply-none}
 use Rattle.optimize.proofs.bads.by_reply.Goals as goal
 
-pub returns-then-reply-eq1 : goal.returns-then-reply-eq1
+pub returns-in-No : goal.returns-in-No
 unfolding retained_of
-returns-then-reply-eq1 c = λ h g inputs replies R S ways. reply_drops g ways c.args.how c.args.place (view h g inputs replies R S c.args.walk) c.args.reply c.if-reply-eq1.true
+returns-in-No c = λ g ways σ. rw c.in-No.is refl
+
+pub returns-in-Yes : goal.returns-in-Yes
+unfolding retained_of
+returns-in-Yes c = λ g ways σ. rw c.in-Yes.is refl
 
 pub returns-then-how : goal.returns-then-how
 unfolding retained_of
-returns-then-how c =
-    λ h g inputs replies R S ways. reply_refuses g ways c.args.how c.args.place (view h g inputs replies R S c.args.walk) c.args.reply c.if-reply-eq1.false c.if-reply-eq2.true c.if-how.true
+returns-then-how c = λ g ways σ. rw (c.in-Satisfiable.is, c.if-how.true) refl
 
-pub returns-then-reply-eq2 : goal.returns-then-reply-eq2
+pub returns-else-how : goal.returns-else-how
 unfolding retained_of
-returns-then-reply-eq2 c =
-    λ h g inputs replies R S ways. reply-keeps g ways c.args.how c.args.place (view h g inputs replies R S c.args.walk) c.args.reply c.if-reply-eq1.false c.if-reply-eq2.true c.if-how.false
-
-pub returns : goal.returns
-unfolding retained_of
-returns c = λ h g inputs replies R S ways. reply-none g ways c.args.how c.args.place (view h g inputs replies R S c.args.walk) c.args.reply c.if-reply-eq1.false c.if-reply-eq2.false
+returns-else-how c = λ g ways σ. rw (c.in-Satisfiable.is, c.if-how.false) refl

@@ -1,24 +1,19 @@
--- The start of the rules, with the sequentials judged.
+-- The buffers are set up, then the sequentials judged in them.
 -- Assumes nothing.
-use mathlib.Core.Path.{ap, sym, ◌∙◌}
-use mathlib.Core.List.{[]}
+use mathlib.Core.Path.{sym}
 use native.Mathlib.Omega.{arith}
-use Rattle.rules.specs.Walk.{St}
-use Rattle.rules.specs.Whole.{judge_sequentials}
-use Rattle.optimize.specs.View.{table_of}
-use Rattle.optimize.specs.ResultView.{untouched}
+use Rattle.std.proofs.Common.{rules}
+use Rattle.optimize.proofs.Entries.{begun-by}
 use Rattle.optimize.proofs.beginning.begin.Goals as goal
 
-pub judge_sequentials-requires : goal.judge_sequentials-requires
-judge_sequentials-requires c =
-    record {
-      table = c.requires.table;
-      given_bound = (c.requires.given_bound.0, omega (arith, c.requires.given_bound.1, c.set_up.auto.scratch));
-    }
+pub judge_sequentials-requires-clause-places : goal.judge_sequentials-requires-clause-places
+judge_sequentials-requires-clause-places c =
+    let r = c.requires.ready in
+    λ k l. record { inside = l; counted = r.counted; small = r.few; room = omega (arith, r.room, c.set_up.auto.res); marks = omega (arith, r.scratch, c.set_up.auto.scratch) }
 
-pub returns : goal.returns
-returns c =
-    record {
-      begins = λ inputs replies. ap (λ (σ : St). judge_sequentials (table_of c.args.given.now) σ c.args.sequentials.now) (sym (c.set_up.ensures inputs replies)) ∙ c.judge_sequentials.ensures.judges_nexts [] inputs replies _ untouched (omega arith);
-      upper_bound = c.judge_sequentials.ensures.upper_bound;
-    }
+pub returns-clause-begins : goal.returns-clause-begins
+returns-clause-begins c =
+    let q = c.judge_sequentials.ensures in
+    let still-res = sym q.keeps.res in
+    let still-scratch = sym q.keeps.scratch in
+    begun-by _ c.judge_sequentials.new.self q.keeps _ _ _ _ (search rules) (search rules) c.untouched.ensures q.walk (c.set_up.ensures _ _) (q.judges_nexts _)

@@ -1,18 +1,17 @@
--- `fold_eq` is true at one node; else it sets an operand that is no constant aside, and compares two.
+-- `fold_eq` is true at one node; else it compares two constants.
 -- Assumes nothing.
+use mathlib.Core.Path.{◌∙◌}
 use borrow.Author.Tests.{eq-eqb, ne_eqb}
+use Rattle.std.proofs.Common.{rules}
+use Rattle.btor.specs.Operators.{same}
+use Rattle.rules.specs.Fold.{shared}
+use Rattle.optimize.specs.View.{constant_is}
+use Rattle.optimize.proofs.FoldLaws.{test_by}
 use Rattle.optimize.proofs.fold.fold_eq.Goals as goal
 
 pub returns-then-x-y : goal.returns-then-x-y
-returns-then-x-y c = rw (eq-eqb _ _ c.if-x-y.true) c.shared_constant.ensures
-
-pub returns-in_default : goal.returns-in_default
-returns-in_default c = rw (ne_eqb _ _ c.if-x-y.false, c.in_default.is)
-
-pub returns-in_default-right : goal.returns-in_default-right
-returns-in_default-right c =
-    rw (ne_eqb _ _ c.if-x-y.false, c.in-Imm.is, c.in_default-right.is)
+returns-then-x-y c = λ n. rw (eq-eqb _ _ c.if-x-y.true)
 
 pub returns : goal.returns
 returns c =
-    rw (ne_eqb _ _ c.if-x-y.false, c.in-Imm.is, c.in-Imm-right.is, ← c.eq.ensures) c.shared_constant-2.ensures
+    λ n. rw (ne_eqb _ _ c.if-x-y.false) (c.fold_constants.ensures n (λ x y. shared n (same x y)) (λ x y r p. let q = p in search rules) ∙ test_by n same (constant_is c.args.left) (constant_is c.args.right))

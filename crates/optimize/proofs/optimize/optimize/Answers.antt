@@ -1,8 +1,7 @@
 -- Judged, then folded: both answers of `judge` leave what the rules leave.
 -- Assumes nothing.
-use mathlib.Core.Path.{sym, ap, ◌∙◌}
+use mathlib.Core.Path.{ap, ◌∙◌}
 use lib.ListN.{length}
-use Rattle.tables.specs.Judging.{verdict_of}
 use Rattle.optimize.specs.Entries.{answered, entry_is}
 use Rattle.optimize.proofs.EntryLaws.{in_order, refused-left}
 use Rattle.optimize.proofs.optimize.optimize.Goals as goal
@@ -13,15 +12,18 @@ fold_judged-requires c =
     let bs = c.args.names.now in
     let room = length c.args.res.now in
     let scratch = length c.args.scratch.now in
-    in_order c.args.mode ws bs room scratch _ _ (ap (verdict_of ws) (sym c.in-Accepted.is) ∙ c.judge.ensures.result_value) (c.judge.ensures.cut _ _ c.in-Accepted.is)
+    let judged = rw c.house.ensures at c.in-Ok.ensures.result_value in
+    let cut = rw c.house.ensures at c.in-Ok.ensures.cut in
+    in_order c.args.mode ws bs room scratch c.in-Ok.accepted judged cut
 
-pub returns-in-Refused : goal.returns-in-Refused
-returns-in-Refused c =
+pub returns-in-Err : goal.returns-in-Err
+returns-in-Err c =
     let ws = c.args.words.now in
     let bs = c.args.names.now in
     let room = length c.args.res.now in
     let scratch = length c.args.scratch.now in
-    let refused = refused-left (entry_is c.args.entry) c.args.mode ws bs room scratch c.in-Refused.why (ap (verdict_of ws) (sym c.in-Refused.is) ∙ c.judge.ensures.result_value) in
+    let judged = rw c.house.ensures at c.in-Err.ensures.result_value in
+    let refused = refused-left (entry_is c.args.entry) c.args.mode ws bs room scratch c.in-Err.refusal judged in
     record {
       result_value = ap answered c.finish_call.ensures.value ∙ refused.0;
       res_after = c.finish_call.ensures.res_after ∙ refused.1;

@@ -16,6 +16,6 @@ pub returns-then-word-eq-CONST : goal.returns-then-word-eq-CONST
 returns-then-word-eq-CONST c =
     given-constant _ _ c.requires.0 (sym c.word.ensures ∙ c.if-word-eq-CONST.true) _ c.word-then-word-eq-CONST.ensures
 
-pub returns : goal.returns
-returns c =
+pub returns-else-word-eq-CONST : goal.returns-else-word-eq-CONST
+returns-else-word-eq-CONST c =
     given-none _ _ c.requires.0 (λ e. c.if-word-eq-CONST.false (c.word.ensures ∙ e))

@@ -34,8 +34,8 @@ given_constant-requires-2 c =
 
 pub returns-in_default-given_constant : goal.returns-in_default-given_constant
 returns-in_default-given_constant c =
-    retain_no-next _ _ (sequential_inside _ _ c.requires.0 c.requires.1) (λ e. c.if-state-next.false (c.operand-state.ensures ∙ e ∙ sym c.operand-next.ensures)) _ (sym (ap constant_is c.in-Imm.is) ∙ c.given_constant.ensures ∙ rw (c.operand.ensures, c.operand-state.ensures)) (sym (ap constant_is c.in_default-given_constant.is) ∙ c.given_constant-2.ensures ∙ rw c.operand-next.ensures)
+    retain_no-next _ _ (sequential_inside _ _ c.requires.0 c.requires.1) (λ e. c.if-state-next.false (c.operand-state.ensures ∙ e ∙ sym c.operand-next.ensures)) _ (sym (ap constant_is c.in-Some.is) ∙ c.given_constant.ensures ∙ rw (c.operand.ensures, c.operand-state.ensures)) (sym (ap constant_is c.in_default-given_constant.is) ∙ c.given_constant-2.ensures ∙ rw c.operand-next.ensures)
 
 pub returns : goal.returns
 returns c =
-    retain_two _ _ (sequential_inside _ _ c.requires.0 c.requires.1) (λ e. c.if-state-next.false (c.operand-state.ensures ∙ e ∙ sym c.operand-next.ensures)) _ (sym (ap constant_is c.in-Imm.is) ∙ c.given_constant.ensures ∙ rw (c.operand.ensures, c.operand-state.ensures)) _ (sym (ap constant_is c.in-Imm-given_constant.is) ∙ c.given_constant-2.ensures ∙ rw c.operand-next.ensures)
+    retain_two _ _ (sequential_inside _ _ c.requires.0 c.requires.1) (λ e. c.if-state-next.false (c.operand-state.ensures ∙ e ∙ sym c.operand-next.ensures)) _ (sym (ap constant_is c.in-Some.is) ∙ c.given_constant.ensures ∙ rw (c.operand.ensures, c.operand-state.ensures)) _ (sym (ap constant_is c.in-Some-given_constant.is) ∙ c.given_constant-2.ensures ∙ rw c.operand-next.ensures)

@@ -1,8 +1,7 @@
--- `tables::label::name_word` meets its contract: a node that section 1 holds has its name word in the slice, and another has none.
+-- `name_word`: a node that section 1 holds has its name word in the slice, and another has none.
 -- Assumes nothing.
 use mathlib.Core.Path.{sym, ◌∙◌}
 use native.Mathlib.Omega.{arith}
-use borrow.Author.Rules.{rules}
 use Rattle.tables.specs.LimitAnswers.{limits_is}
 use Rattle.tables.proofs.LabelLaws.{word-past, word-inside}
 use Rattle.tables.proofs.label.name_word.Goals as goal
@@ -12,15 +11,10 @@ returns-then-nodes_in-node c =
     let a = c.args in
     sym (word-past (limits_is a.limits) a.words.now a.node (omega (arith, c.nodes_in.ensures)))
 
-pub row_word-requires : goal.row_word-requires
-row_word-requires c =
-    let a = c.args in
-    record {
-      has_row = (word-inside (limits_is a.limits) _ _ (rw c.nodes_in.ensures at c.if-nodes_in-node.false)).0;
-      place_lt_row_width = search rules;
-    }
+pub row_word-requires-clause-has_row : goal.row_word-requires-clause-has_row
+row_word-requires-clause-has_row c =
+    (word-inside (limits_is c.args.limits) _ _ (rw c.nodes_in.ensures at c.if-nodes_in-node.false)).0
 
 pub returns : goal.returns
 returns c =
-    let a = c.args in
-    c.row_word.ensures ∙ sym (word-inside (limits_is a.limits) _ _ (rw c.nodes_in.ensures at c.if-nodes_in-node.false)).1
+    c.row_word.ensures ∙ sym (word-inside (limits_is c.args.limits) _ _ (rw c.nodes_in.ensures at c.if-nodes_in-node.false)).1

@@ -1,7 +1,6 @@
--- `tables::names::cut_names` meets its contract. The loop's invariant: the place is within the bytes, and what the names that are left come to
--- is what the bytes come to; each turn by the law of one name. The measure is how many names are left.
+-- `cut_names`: the place is within the bytes, and what the names that are left come to is what the bytes come to.
 -- Assumes nothing.
-use Prim.Native.Nat.{◌≤◌}
+use Prim.Native.Nat.{◌-◌, ◌≤◌}
 use mathlib.Core.Path.{◌≡◌}
 use lib.ListN.{length, drop}
 use Rattle.tables.specs.LimitAnswers.{limits_is}
@@ -9,8 +8,5 @@ use Rattle.tables.specs.NameAnswers.{names_count}
 use Rattle.tables.proofs.NameLaws.{judged}
 use Rattle.tables.proofs.names.cut_names.Given as goal
 
-abbrev pub invariant-loop-left : goal.invariant-loop-left
-invariant-loop-left l = (l.at ≤ length l.names) × (judged (limits_is l.limits) l.count l.left (drop l.at l.names) ≡ names_count (limits_is l.limits) l.names)
-
-abbrev pub decreases-loop-left : goal.decreases-loop-left
-decreases-loop-left l = l.left
+abbrev pub invariant-loop : goal.invariant-loop
+invariant-loop l = (l.at ≤ length l.names) × (judged (limits_is l.limits) l.count (l.count - l.counter) (drop l.at l.names) ≡ names_count (limits_is l.limits) l.names)

@@ -1,35 +1,27 @@
--- `tables::names::is_memory_dump` meets its contract: whether a name starts with "memory-dump" is read off its place.
+-- `is_memory_dump` looks at the bytes of the name where it stands.
 -- Assumes nothing.
 use Prim.Native.Nat.{ℕ, ◌+◌, ◌-◌}
 use mathlib.Core.Path.{◌≡◌, sym, ap, ◌∙◌}
 use native.Mathlib.Omega.{arith}
 use lib.ListN.{take, drop}
 use Rattle.rules.specs.Names.{starts_with, memory_dump}
+use Rattle.tables.specs.LimitAnswers.{limits_is}
 use Rattle.tables.specs.NameAnswers.{placed}
-use Rattle.tables.proofs.NameLaws.{text_of, dump-place, place_inside}
+use Rattle.tables.proofs.NameLaws.{text_of, dump-place}
 use Rattle.tables.proofs.names.is_memory_dump.Goals as goal
 
-pub overflow_add-start : goal.overflow_add-start
-overflow_add-start c = omega (arith, place_inside _ _ _ _ _ (sym c.name_place.ensures ∙ ap placed c.in-At.is))
-
-pub slice_bounds-starts_with_memory_dump-end : goal.slice_bounds-starts_with_memory_dump-end
-slice_bounds-starts_with_memory_dump-end c = omega (arith, place_inside _ _ _ _ _ (sym c.name_place.ensures ∙ ap placed c.in-At.is))
-
-pub returns-in-At : goal.returns-in-At
+pub returns-in-Some : goal.returns-in-Some
 unfolding text_of
-returns-in-At c =
+returns-in-Some c =
     let bs = c.args.names.now in
-    let k = c.args.k in
-    let start = c.in-At.start in
-    let len = c.in-At.len in
-    let e : start + len - start ≡ len = omega arith in
+    let name = c.in-Some.name in
+    let n : name.start + name.len - name.start ≡ name.len = omega arith in
     c.starts_with_memory_dump.ensures
-    ∙ ap (λ (n : ℕ). starts_with memory_dump (take n (drop start bs))) e
-    ∙ sym (dump-place _ bs k ∙ ap (λ p. starts_with memory_dump (text_of bs p)) (sym c.name_place.ensures ∙ ap placed c.in-At.is))
+    ∙ ap (λ (n : ℕ). starts_with memory_dump (take n (drop name.start bs))) n
+    ∙ sym (dump-place (limits_is c.args.limits) bs c.args.k ∙ ap (λ p. starts_with memory_dump (text_of bs p)) (sym c.name_place.ensures.place ∙ ap placed c.in-Some.is))
 
-pub returns-in-Nowhere : goal.returns-in-Nowhere
+pub returns-in-None : goal.returns-in-None
 unfolding text_of starts_with
-returns-in-Nowhere c =
+returns-in-None c =
     let bs = c.args.names.now in
-    let k = c.args.k in
-    sym (dump-place _ bs k ∙ ap (λ p. starts_with memory_dump (text_of bs p)) (sym c.name_place.ensures ∙ ap placed c.in-Nowhere.is))
+    sym (dump-place (limits_is c.args.limits) bs c.args.k ∙ ap (λ p. starts_with memory_dump (text_of bs p)) (sym c.name_place.ensures.place ∙ ap placed c.in-None.is))

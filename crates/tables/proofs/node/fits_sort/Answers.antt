@@ -4,10 +4,9 @@ use mathlib.Core.Path.{sym, ◌∙◌}
 use Rattle.tables.proofs.NodeLaws.{fits-known, fits-unknown}
 use Rattle.tables.proofs.node.fits_sort.Goals as goal
 
-pub returns-in-Known : goal.returns-in-Known
-returns-in-Known c =
-    rw c.ones.ensures (fits-known c.args.sort c.args.number c.in-Known.known (sym c.from_code.ensures ∙ c.in-Known.is))
+pub returns-in-Ok : goal.returns-in-Ok
+returns-in-Ok c =
+    rw c.ones.ensures (fits-known c.args.sort c.args.number c.in-Ok.known (sym c.try_from.ensures ∙ c.in-Ok.is))
 
-pub returns-in-Unknown : goal.returns-in-Unknown
-returns-in-Unknown c =
-    fits-unknown c.args.sort c.args.number (sym c.from_code.ensures ∙ c.in-Unknown.is)
+pub returns-in-Err : goal.returns-in-Err
+returns-in-Err c = fits-unknown c.args.sort c.args.number c.in-Err.field-0 (sym c.try_from.ensures ∙ c.in-Err.is)

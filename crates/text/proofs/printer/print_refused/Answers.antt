@@ -1,20 +1,21 @@
 -- `print_refused` meets its contract: the word, the three numbers after blanks, and the line's end.
 -- Assumes nothing.
+use borrow.Author.Rules.{rules}
 use mathlib.Core.List.{[], ◌∷◌}
 use native.Mathlib.Nat.{le_trans}
 use Rattle.rules.specs.Text.{blanked, refused_word}
 use Rattle.text.proofs.Laid.{laid-two}
-use Rattle.text.proofs.Answer.{refused-room, place_after}
+use Rattle.text.proofs.Answer.{refused-room, left_behind, place_after}
 use Rattle.text.proofs.printer.print_refused.Goals as goal
 
 pub returns : goal.returns
 returns c =
-    let args = c.args in
+    let why = c.args.why in
     let all =
-    laid-two _ _ _ refused_word _ c.print_bytes-first.ensures
-    (laid-two _ _ _ (blanked (args.number ∷ args.section ∷ args.position ∷ [])) (10 ∷ []) c.print_blanked-last.ensures c.print_byte.ensures)
+    laid-two _ _ _ refused_word _ c.bytes.ensures.printed
+    (laid-two _ _ _ (blanked (why.number ∷ why.section ∷ why.position ∷ [])) (10 ∷ []) c.blanked.ensures.printed c.byte.ensures.printed)
     in
     record {
-      result_after = all;
-      room = λ h. place_after _ _ _ _ all (le_trans (refused-room _ _ _ c.ranges.number.fits c.ranges.section.fits c.ranges.position.fits) h);
+      result_after = left_behind c.new-page.result c.byte.new.self _ _ c.new-page.ensures.page all _ (search rules);
+      room = λ h. place_after c.new-page.result c.byte.new.self _ _ c.new-page.ensures.page all (le_trans (refused-room _ _ _ c.blanked.ensures.short) h);
     }

@@ -1,6 +1,0 @@
--- `copy_bytes` ends: what is left of the numbers falls.
-use Rattle.std.proofs.Common.{length, ◌-◌}
-use Rattle.case_list.proofs.cases.copy_bytes.Given as goal
-
-abbrev pub decreases-loop-i : goal.decreases-loop-i
-decreases-loop-i l = length l.numbers - l.i

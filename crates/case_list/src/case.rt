@@ -1,0 +1,158 @@
+// A line is a case: its name, a blank, then numbers in parts, with `|` between the parts.
+// Judged: mode, result room, scratch room | words | names bytes | number, section, position, all 0 where the call is accepted.
+// Labelled: node | words | names bytes | the substitute's bytes | the label's bytes.
+// Called: entry point, mode, result room, scratch room | words | names bytes | number, section, position | the words of the result.
+// Entry point 0 is optimize_model_impl, 1 optimize_model_with_solver, 2 optimize_model_with_input. A call that is refused leaves no words.
+use crate::asked::{Answer, Asked, Call, Room};
+use crate::part::read_part;
+use kept_lists::case::{Case, Fault};
+use kept_lists::parts::cut_line;
+use std::alloc::Global;
+
+#[derive(Drop)]
+pub struct LimitCase {
+    words: Vec<u64>,
+    names: Vec<u8>,
+    asked: Asked,
+}
+
+fn bytes_of(alloc: Global, numbers: &[u64]) -> Result<Vec<u8>, Fault> {
+    numbers
+        .iter()
+        .map(|number| u8::try_from(*number).map_err(|_| Fault::Malformed))
+        .try_collect(alloc)
+}
+
+fn read_answer(numbers: &[u64]) -> Result<Answer, Fault> {
+    match numbers {
+        [number, section, position] => Ok([*number, *section, *position]),
+        _ => Err(Fault::Malformed),
+    }
+}
+
+// Whether a number touches the bar after it: there is a blank between them.
+fn touches_a_bar(parts: &str) -> bool {
+    parts
+        .as_bytes()
+        .windows(2)
+        .any(|pair| matches!(pair, [b'0'..=b'9', b'|']))
+}
+
+fn read_asked(
+    alloc: Global,
+    head: &[u64],
+    fourth: &[u64],
+    fifth: Option<Vec<u64>>,
+) -> Result<Asked, Fault> {
+    match (head, fifth) {
+        ([mode, result, scratch], None) => Ok(Asked::Judged {
+            mode: *mode,
+            room: Room::new(*result, *scratch),
+            answer: read_answer(fourth)?,
+        }),
+        ([node], Some(label)) => Ok(Asked::Labelled {
+            node: *node,
+            substitute: bytes_of(alloc, fourth)?,
+            label,
+        }),
+        ([entry, mode, result, scratch], Some(words)) => Ok(Asked::Called(Call {
+            entry: (*entry).try_into()?,
+            mode: *mode,
+            room: Room::new(*result, *scratch).within_largest_need()?,
+            answer: read_answer(fourth)?,
+            result: words,
+        })),
+        _ => Err(Fault::Malformed),
+    }
+}
+
+fn read_parts(alloc: Global, text: &str) -> Result<LimitCase, Fault> {
+    if touches_a_bar(text) {
+        return Err(Fault::Malformed);
+    }
+    let parts: Vec<Vec<u64>> = text
+        .split('|')
+        .map(|part| read_part(alloc, part))
+        .try_collect(alloc)?;
+    let mut parts = parts.into_iter();
+    let mut part = || parts.next().ok_or(Fault::Malformed);
+    let (head, words, names, fourth) = (part()?, part()?, part()?, part()?);
+    let asked = read_asked(alloc, head.as_slice(), fourth.as_slice(), parts.next())?;
+    if parts.next().is_some() {
+        return Err(Fault::Malformed);
+    }
+    let names = bytes_of(alloc, names.as_slice())?;
+    Ok(LimitCase {
+        words,
+        names,
+        asked,
+    })
+}
+
+// The name ends at the first blank.
+fn read_line(alloc: Global, line: &[u8]) -> Result<LimitCase, Fault> {
+    let mut fields = line.splitn(2, |b| *b == b' ');
+    let _name = fields.next();
+    let parts = fields.next().ok_or(Fault::Malformed)?;
+    read_parts(alloc, str::from_utf8(parts)?)
+}
+
+impl Case for LimitCase {
+    fn cut(alloc: Global, list: &[u8]) -> Result<(LimitCase, &[u8]), Fault> {
+        let (line, rest) = cut_line(list)?;
+        Ok((read_line(alloc, line)?, rest))
+    }
+
+    fn is_right(&self, alloc: Global) -> Result<bool, Fault> {
+        self.asked
+            .is_right(alloc, self.words.as_slice(), self.names.as_slice())
+    }
+}
+
+#[cfg(test)]
+mod tests {
+    use super::*;
+    use std::test::Fail;
+
+    // Judged, labelled and called.
+    const LINES: [&str; 4] = [
+        "judged 0 22 22 | 0 0 0 0 0 0 | 0 0 | 0 0 0\n",
+        " 1 | 2 3 | 255 | | 97\n",
+        "labelled 1 ||| |\n",
+        "called 2 0 105494 0 | | | 12 8 0 | 1 2\nand the next\n",
+    ];
+
+    const MALFORMED: [&str; 14] = [
+        "\n",
+        "name\n",
+        "no_line_end 0 22 22 | | | 0 0 0",
+        "three_parts 0 22 22 | | 0 0 0\n",
+        "six_parts 1 | | | | |\n",
+        "judged_by_two_numbers 0 22 | | | 0 0 0\n",
+        "answer_of_two_numbers 0 22 22 | | | 0 0\n",
+        "no_byte 0 22 22 | | 256 | 0 0 0\n",
+        "substitute_no_byte 1 | | | 256 |\n",
+        "number_at_a_bar 0 22 22| | | 0 0 0\n",
+        "bar_in_brackets 0 22 22 | (1 | 2) | | 0 0 0\n",
+        "no_entry_point 3 0 22 22 | | | 0 0 0 |\n",
+        "more_than_the_largest_need 0 0 105495 22 | | | 0 0 0 |\n",
+        "line_end_of_two_bytes 0 22 22 | | | 0 0 0\r\n",
+    ];
+
+    #[test]
+    fn a_line_is_a_case(rt: HostRuntime) -> Result<(), Fail> {
+        for line in LINES {
+            let (_, rest) = LimitCase::cut(rt.alloc(), line.as_bytes())?;
+            assert!(rt; rest.is_empty() == !line.ends_with("next\n"), "{line}");
+        }
+        Ok(())
+    }
+
+    #[test]
+    fn malformed_lines(rt: HostRuntime) {
+        for line in MALFORMED {
+            let cut = LimitCase::cut(rt.alloc(), line.as_bytes());
+            assert!(rt; matches!(cut, Err(Fault::Malformed)), "{line}");
+        }
+    }
+}

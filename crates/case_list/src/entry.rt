@@ -1,0 +1,44 @@
+// The entry points, by the numbers that a list has for them.
+use kept_lists::case::Fault;
+use optimize::optimize::{
+    optimize_model_impl, optimize_model_with_input, optimize_model_with_solver,
+};
+use tables::refusal::Refusal;
+
+#[derive(Clone, Copy)]
+pub enum EntryPoint {
+    Impl,
+    WithSolver,
+    WithInput,
+}
+
+impl TryFrom<u64> for EntryPoint {
+    type Error = Fault;
+
+    fn try_from(number: u64) -> Result<EntryPoint, Fault> {
+        match number {
+            0 => Ok(EntryPoint::Impl),
+            1 => Ok(EntryPoint::WithSolver),
+            2 => Ok(EntryPoint::WithInput),
+            _ => Err(Fault::Malformed),
+        }
+    }
+}
+
+impl EntryPoint {
+    // A match and no function taken from a table: one of the three takes no mode.
+    pub fn call(
+        self,
+        mode: u64,
+        words: &[u64],
+        names: &[u8],
+        res: &mut [u64],
+        scratch: &mut [u64],
+    ) -> Result<usize, Refusal> {
+        match self {
+            EntryPoint::Impl => optimize_model_impl(mode, words, names, res, scratch),
+            EntryPoint::WithSolver => optimize_model_with_solver(mode, words, names, res, scratch),
+            EntryPoint::WithInput => optimize_model_with_input(words, names, res, scratch),
+        }
+    }
+}

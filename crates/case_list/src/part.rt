@@ -1,0 +1,144 @@
+// The numbers of a part of a line. `4(1 2)` stands for 1 2 1 2 1 2 1 2, and `(1 2)` for 1 2; in brackets `7+2` is 7 the first time, and grows
+// by 2 from each time to the next.
+ghost use Rattle.std.specs.Prelude.{◌≤◌, vec_len, IfOk};
+
+use kept_lists::case::Fault;
+use kept_lists::parts::number;
+use std::alloc::Global;
+
+// The most numbers of a part: a table with every count at its limit, or 4,096 names of 64 bytes, and some over.
+const MOST_NUMBERS: usize = 320000;
+
+// A number in brackets, and by how much it grows.
+#[derive(Clone, Copy)]
+struct Member {
+    first: u64,
+    step: u64,
+}
+
+impl Member {
+    fn read(word: &str) -> Result<Member, Fault> {
+        let (first, step) = word.split_once('+').unwrap_or((word, "0"));
+        Ok(Member {
+            first: number(first)?,
+            step: number(step)?,
+        })
+    }
+
+    fn at(self, time: u64) -> u64 {
+        self.first.wrapping_add(self.step.wrapping_mul(time))
+    }
+}
+
+fn put(numbers: &mut Vec<u64>, number: u64) -> Result<(), Fault>
+    requires { vec_len numbers.old ≤ MOST_NUMBERS }
+    ensures { vec_len numbers.new ≤ MOST_NUMBERS }
+{
+    if numbers.len() == MOST_NUMBERS {
+        return Err(Fault::Malformed);
+    }
+    numbers.push(number)?;
+    Ok(())
+}
+
+fn put_words(numbers: &mut Vec<u64>, words: &str) -> Result<(), Fault>
+    requires { vec_len numbers.old ≤ MOST_NUMBERS }
+    ensures { vec_len numbers.new ≤ MOST_NUMBERS }
+{
+    for word in words.split(' ').filter(|word| !word.is_empty()) {
+        put(numbers, number(word)?)?;
+    }
+    Ok(())
+}
+
+fn put_group(numbers: &mut Vec<u64>, times: &str, group: &str) -> Result<(), Fault>
+    requires { vec_len numbers.old ≤ MOST_NUMBERS }
+    ensures { vec_len numbers.new ≤ MOST_NUMBERS }
+{
+    let times = if times.is_empty() { 1 } else { number(times)? };
+    let members: Vec<Member> = group
+        .split(' ')
+        .filter(|word| !word.is_empty())
+        .map(Member::read)
+        .try_collect(*numbers.allocator())?;
+    if times == 0 || members.is_empty() {
+        return Err(Fault::Malformed);
+    }
+    for time in 0..times {
+        for member in &members {
+            put(numbers, member.at(time))?;
+        }
+    }
+    Ok(())
+}
+
+pub fn read_part(alloc: Global, text: &str) -> Result<Vec<u64>, Fault>
+    ensures { IfOk result (λ numbers. vec_len numbers ≤ MOST_NUMBERS) }
+{
+    let mut numbers = Vec::new(alloc);
+    let mut pieces = text.split('(');
+    let mut before = pieces.next().unwrap_or("");
+    for piece in pieces {
+        let (group, after) = piece.split_once(')').ok_or(Fault::Malformed)?;
+        let (words, times) = before.rsplit_once(' ').unwrap_or(("", before));
+        put_words(&mut numbers, words)?;
+        put_group(&mut numbers, times, group)?;
+        before = after;
+    }
+    put_words(&mut numbers, before)?;
+    Ok(numbers)
+}
+
+#[cfg(test)]
+mod tests {
+    use super::*;
+    use std::test::Fail;
+
+    #[test]
+    fn numbers_of_a_part(rt: HostRuntime) -> Result<(), Fail> {
+        let cases: [(&str, &[u64]); 9] = [
+            ("", &[]),
+            (" 1  02 ", &[1, 2]),
+            ("4(1 2)", &[1, 2, 1, 2, 1, 2, 1, 2]),
+            ("5 (1 2) 6", &[5, 1, 2, 6]),
+            ("3(7+2)", &[7, 9, 11]),
+            ("2( 1 5+3 )", &[1, 5, 1, 8]),
+            ("2(1)3(2)4", &[1, 1, 2, 2, 2, 4]),
+            ("18446744073709551615", &[18446744073709551615]),
+            ("3(18446744073709551615+2)", &[18446744073709551615, 1, 3]),
+        ];
+        for (text, numbers) in cases {
+            let part = read_part(rt.alloc(), text)?;
+            assert!(rt; part.as_slice() == numbers, "{text}");
+        }
+        Ok(())
+    }
+
+    #[test]
+    fn malformed_parts(rt: HostRuntime) {
+        let parts = [
+            "18446744073709551616",
+            "-1",
+            "a",
+            "1\t2",
+            "+1",
+            "1+2",
+            "(+1)",
+            "(1+)",
+            "(1+2+3)",
+            "(1++2)",
+            "(1",
+            "1)",
+            "()",
+            "2( )",
+            "0(1)",
+            "(1(2))",
+            "a(1)",
+            "320001(1)",
+        ];
+        for text in parts {
+            let part = read_part(rt.alloc(), text);
+            assert!(rt; matches!(part, Err(Fault::Malformed)), "{text}");
+        }
+    }
+}
