@@ -33,6 +33,7 @@ WIDER = same(*(f"Input{count}Byte" for count in range(2, 8)))
 # number is its definition.
 ANTT = r"^NAME = (\d+)$"
 RATTLE = r"^ *(?:pub(?:\(crate\))? )?const NAME: \w+ = (\d+);$"
+CASE = r"^    NAME = (\d+),$"
 RUST = r"^pub(?:\(crate\))? const NAME: \w+ = (\d+);"
 DEFINED = r"^#define GEMTWEED_NAME (\d+)\b"
 COUNTED = r"\bGEMTWEED_NAME = (\d+)\b"
@@ -53,9 +54,8 @@ PLACES = [
       "LONGEST_NAME": "NAME_LENGTH"}),
     ("crates/tables/src/limits.rt", RATTLE, MODE | same("NODE_ROOM", "BAD_ROOM", "LEAST_ROOM")),
     ("crates/tables/src/node.rt", RATTLE, {"ROW_WIDTH": "WIDTH"}),
-    ("crates/tables/src/node.rt", RATTLE, changed(KINDS, str.upper)),
-    ("crates/btor/src/node_type.rt", RATTLE,
-     changed(SORTS | WIDER, lambda name: re.sub(r"Input(\d)Byte", r"Input_\1_Byte", name).upper())),
+    ("crates/tables/src/node.rt", CASE, KINDS),
+    ("crates/btor/src/node_type.rt", CASE, SORTS | WIDER),
     ("crates/text/src/reader.rt", RATTLE, {"MOST_NUMBERS": "NUMBERS"}),
     # the rule book
     ("docs/FORMAT.md", r"^\| 1 \| nodes \| (\d+) \|", {"ROW_WIDTH": ""}),

@@ -4,16 +4,16 @@ ghost use Rattle.btor.specs.Sorts.{code_of, width_of, ones_of, sort_of};
 
 #[derive(Clone, Copy, Debug, PartialEq, Eq)]
 pub enum NodeType {
-    Bit,
-    Word,
-    Memory,
-    Input1Byte,
-    Input2Byte,
-    Input3Byte,
-    Input4Byte,
-    Input5Byte,
-    Input6Byte,
-    Input7Byte,
+    Bit = 1,
+    Word = 2,
+    Memory = 3,
+    Input1Byte = 11,
+    Input2Byte = 12,
+    Input3Byte = 13,
+    Input4Byte = 14,
+    Input5Byte = 15,
+    Input6Byte = 16,
+    Input7Byte = 17,
 }
 
 // A word that is the code of no sort.
@@ -22,42 +22,31 @@ pub struct UnknownSort(pub u64);
 
 // The codes are associated constants, as the project's rules ask: code is compared with them where no sort is at hand.
 impl NodeType {
-    pub const BIT: u64 = 1;
+    pub const BIT: u64 = NodeType::Bit as u64;
 
-    pub const WORD: u64 = 2;
+    pub const WORD: u64 = NodeType::Word as u64;
 
-    pub const MEMORY: u64 = 3;
+    pub const MEMORY: u64 = NodeType::Memory as u64;
 
-    pub const INPUT_1_BYTE: u64 = 11;
+    pub const INPUT_1_BYTE: u64 = NodeType::Input1Byte as u64;
 
-    pub const INPUT_2_BYTE: u64 = 12;
+    pub const INPUT_2_BYTE: u64 = NodeType::Input2Byte as u64;
 
-    pub const INPUT_3_BYTE: u64 = 13;
+    pub const INPUT_3_BYTE: u64 = NodeType::Input3Byte as u64;
 
-    pub const INPUT_4_BYTE: u64 = 14;
+    pub const INPUT_4_BYTE: u64 = NodeType::Input4Byte as u64;
 
-    pub const INPUT_5_BYTE: u64 = 15;
+    pub const INPUT_5_BYTE: u64 = NodeType::Input5Byte as u64;
 
-    pub const INPUT_6_BYTE: u64 = 16;
+    pub const INPUT_6_BYTE: u64 = NodeType::Input6Byte as u64;
 
-    pub const INPUT_7_BYTE: u64 = 17;
+    pub const INPUT_7_BYTE: u64 = NodeType::Input7Byte as u64;
 
     // The code that stands for the sort in a table and in BTOR2 text.
     pub fn get_sort(self) -> u64
         ensures { result ≡ code_of self }
     {
-        match self {
-            NodeType::Bit => NodeType::BIT,
-            NodeType::Word => NodeType::WORD,
-            NodeType::Memory => NodeType::MEMORY,
-            NodeType::Input1Byte => NodeType::INPUT_1_BYTE,
-            NodeType::Input2Byte => NodeType::INPUT_2_BYTE,
-            NodeType::Input3Byte => NodeType::INPUT_3_BYTE,
-            NodeType::Input4Byte => NodeType::INPUT_4_BYTE,
-            NodeType::Input5Byte => NodeType::INPUT_5_BYTE,
-            NodeType::Input6Byte => NodeType::INPUT_6_BYTE,
-            NodeType::Input7Byte => NodeType::INPUT_7_BYTE,
-        }
+        self as u64
     }
 
     // How many bits a number of the sort has. A memory is no number: 0.

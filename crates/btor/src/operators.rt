@@ -1,7 +1,7 @@
 // The operators of BTOR2 on numbers of at most 64 bits, as optimize.rs folds them, and Div and Rem as the standard has them.
 #![tactic(auto, unfolding(crate::specs::Operators::compute, crate::specs::Operators::signed_div))]
 
-ghost use Rattle.std.specs.Prelude.{◌≡◌, ◌+◌, ◌-◌, ◌*◌, ◌/◌, ◌%◌, ◌^◌};
+ghost use Rattle.std.specs.Prelude.{◌≡◌, ◌+◌, ◌*◌, ◌/◌, ◌%◌, ◌^◌};
 ghost use Rattle.btor.specs.Operators.{Op, rust, standard, compute, both, either, complement, less, same, extend};
 ghost use Rattle.btor.specs.Readings.{reading_is};
 ghost use Rattle.btor.specs.Sorts.{width_of};
@@ -50,6 +50,7 @@ fn add_columns(sum: u64, left: u64, right: u64) -> u64
 }
 
 // The product modulo 2^64: columns 0 to 3, ten pieces.
+#[tactic(auto, unfolding(crate::specs::Operators::compute), using(crate::proofs::Words::product_by_pieces))]
 pub fn wrapping_mul(left: u64, right: u64) -> u64
     ensures { result ≡ compute rust Op.Mul left right }
 {
@@ -148,6 +149,7 @@ pub fn or(left: u64, right: u64) -> u64
 }
 
 // The complement within a sort's width, of the number's lowest bits.
+#[tactic(auto, using(crate::proofs::Sorts::width_le, crate::proofs::Words::complement_masked))]
 pub fn not(value: u64, sort: NodeType) -> u64
     ensures { result ≡ complement (width_of sort) value }
 {

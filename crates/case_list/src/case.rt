@@ -3,16 +3,17 @@
 // Labelled: node | words | names bytes | the substitute's bytes | the label's bytes.
 // Called: entry point, mode, result room, scratch room | words | names bytes | number, section, position | the words of the result.
 // Entry point 0 is optimize_model_impl, 1 optimize_model_with_solver, 2 optimize_model_with_input. A call that is refused leaves no words.
-use crate::asked::{Answer, Asked, Call, Room};
-use crate::part::read_part;
+use crate::asked::{Asked, Call, Judging, Labelling, Room};
+use crate::model::Model;
+use crate::part::Part;
+use gemtweed::fold::GemtweedAnswer;
 use kept_lists::case::{Case, Fault};
 use kept_lists::parts::cut_line;
 use std::alloc::Global;
 
 #[derive(Drop)]
 pub struct LimitCase {
-    words: Vec<u64>,
-    names: Vec<u8>,
+    model: Model,
     asked: Asked,
 }
 
@@ -23,14 +24,20 @@ fn bytes_of(alloc: Global, numbers: &[u64]) -> Result<Vec<u8>, Fault> {
         .try_collect(alloc)
 }
 
-fn read_answer(numbers: &[u64]) -> Result<Answer, Fault> {
-    match numbers {
-        [number, section, position] => Ok([*number, *section, *position]),
-        _ => Err(Fault::Malformed),
-    }
+// The three numbers of an answer, with how many words the result has.
+fn read_answer(numbers: &[u64], words: usize) -> Result<GemtweedAnswer, Fault> {
+    let [number, section, position] = numbers else {
+        return Err(Fault::Malformed);
+    };
+    Ok(GemtweedAnswer {
+        number: *number,
+        section: *section,
+        position: *position,
+        words: words as u64,
+    })
 }
 
-// Whether a number touches the bar after it: there is a blank between them.
+// Whether a number touches the bar after it: a blank must stand between them.
 fn touches_a_bar(parts: &str) -> bool {
     parts
         .as_bytes()
@@ -42,25 +49,25 @@ fn read_asked(
     alloc: Global,
     head: &[u64],
     fourth: &[u64],
-    fifth: Option<Vec<u64>>,
+    fifth: Option<Part>,
 ) -> Result<Asked, Fault> {
     match (head, fifth) {
-        ([mode, result, scratch], None) => Ok(Asked::Judged {
+        ([mode, result, scratch], None) => Ok(Asked::Judged(Judging {
             mode: *mode,
             room: Room::new(*result, *scratch),
-            answer: read_answer(fourth)?,
-        }),
-        ([node], Some(label)) => Ok(Asked::Labelled {
+            answer: read_answer(fourth, 0)?,
+        })),
+        ([node], Some(label)) => Ok(Asked::Labelled(Labelling {
             node: *node,
             substitute: bytes_of(alloc, fourth)?,
-            label,
-        }),
+            label: label.numbers,
+        })),
         ([entry, mode, result, scratch], Some(words)) => Ok(Asked::Called(Call {
             entry: (*entry).try_into()?,
             mode: *mode,
             room: Room::new(*result, *scratch).within_largest_need()?,
-            answer: read_answer(fourth)?,
-            result: words,
+            answer: read_answer(fourth, words.numbers.len())?,
+            result: words.numbers,
         })),
         _ => Err(Fault::Malformed),
     }
@@ -70,22 +77,28 @@ fn read_parts(alloc: Global, text: &str) -> Result<LimitCase, Fault> {
     if touches_a_bar(text) {
         return Err(Fault::Malformed);
     }
-    let parts: Vec<Vec<u64>> = text
+    let parts: Vec<Part> = text
         .split('|')
-        .map(|part| read_part(alloc, part))
+        .map(|part| Part::read(alloc, part))
         .try_collect(alloc)?;
     let mut parts = parts.into_iter();
     let mut part = || parts.next().ok_or(Fault::Malformed);
     let (head, words, names, fourth) = (part()?, part()?, part()?, part()?);
-    let asked = read_asked(alloc, head.as_slice(), fourth.as_slice(), parts.next())?;
+    let fifth = parts.next();
     if parts.next().is_some() {
         return Err(Fault::Malformed);
     }
-    let names = bytes_of(alloc, names.as_slice())?;
     Ok(LimitCase {
-        words,
-        names,
-        asked,
+        model: Model {
+            words: words.numbers,
+            names: bytes_of(alloc, names.numbers.as_slice())?,
+        },
+        asked: read_asked(
+            alloc,
+            head.numbers.as_slice(),
+            fourth.numbers.as_slice(),
+            fifth,
+        )?,
     })
 }
 
@@ -104,8 +117,7 @@ impl Case for LimitCase {
     }
 
     fn is_right(&self, alloc: Global) -> Result<bool, Fault> {
-        self.asked
-            .is_right(alloc, self.words.as_slice(), self.names.as_slice())
+        self.asked.is_right(alloc, &self.model)
     }
 }
 

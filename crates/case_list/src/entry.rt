@@ -1,4 +1,5 @@
-// The entry points, by the numbers that a list has for them.
+// The entry points, by the numbers that a list has for them. The `Entry` of optimize is not public: what is tried here is its public functions.
+use crate::model::Model;
 use kept_lists::case::Fault;
 use optimize::optimize::{
     optimize_model_impl, optimize_model_with_input, optimize_model_with_solver,
@@ -30,11 +31,12 @@ impl EntryPoint {
     pub fn call(
         self,
         mode: u64,
-        words: &[u64],
-        names: &[u8],
+        model: &Model,
         res: &mut [u64],
         scratch: &mut [u64],
     ) -> Result<usize, Refusal> {
+        let words = model.words.as_slice();
+        let names = model.names.as_slice();
         match self {
             EntryPoint::Impl => optimize_model_impl(mode, words, names, res, scratch),
             EntryPoint::WithSolver => optimize_model_with_solver(mode, words, names, res, scratch),

@@ -1,6 +1,7 @@
 // The numbers of a part of a line. `4(1 2)` stands for 1 2 1 2 1 2 1 2, and `(1 2)` for 1 2; in brackets `7+2` is 7 the first time, and grows
 // by 2 from each time to the next.
-ghost use Rattle.std.specs.Prelude.{◌≤◌, vec_len, IfOk};
+ghost use Rattle.std.specs.Prelude.{◌≤◌, vec_len};
+ghost use Rattle.case_list.specs.declared.part.TheConstants.{MOST_NUMBERS};
 
 use kept_lists::case::Fault;
 use kept_lists::parts::number;
@@ -30,63 +31,63 @@ impl Member {
     }
 }
 
-fn put(numbers: &mut Vec<u64>, number: u64) -> Result<(), Fault>
-    requires { vec_len numbers.old ≤ MOST_NUMBERS }
-    ensures { vec_len numbers.new ≤ MOST_NUMBERS }
-{
-    if numbers.len() == MOST_NUMBERS {
-        return Err(Fault::Malformed);
-    }
-    numbers.push(number)?;
-    Ok(())
+// The numbers of a part, no more than the most.
+#[derive(Drop)]
+pub struct Part {
+    pub numbers: Vec<u64>,
+    ghost few: { vec_len numbers ≤ MOST_NUMBERS },
 }
 
-fn put_words(numbers: &mut Vec<u64>, words: &str) -> Result<(), Fault>
-    requires { vec_len numbers.old ≤ MOST_NUMBERS }
-    ensures { vec_len numbers.new ≤ MOST_NUMBERS }
-{
-    for word in words.split(' ').filter(|word| !word.is_empty()) {
-        put(numbers, number(word)?)?;
-    }
-    Ok(())
-}
-
-fn put_group(numbers: &mut Vec<u64>, times: &str, group: &str) -> Result<(), Fault>
-    requires { vec_len numbers.old ≤ MOST_NUMBERS }
-    ensures { vec_len numbers.new ≤ MOST_NUMBERS }
-{
-    let times = if times.is_empty() { 1 } else { number(times)? };
-    let members: Vec<Member> = group
-        .split(' ')
-        .filter(|word| !word.is_empty())
-        .map(Member::read)
-        .try_collect(*numbers.allocator())?;
-    if times == 0 || members.is_empty() {
-        return Err(Fault::Malformed);
-    }
-    for time in 0..times {
-        for member in &members {
-            put(numbers, member.at(time))?;
+impl Part {
+    pub fn read(alloc: Global, text: &str) -> Result<Part, Fault> {
+        let mut part = Part {
+            numbers: Vec::new(alloc),
+        };
+        let mut pieces = text.split('(');
+        let mut before = pieces.next().unwrap_or("");
+        for piece in pieces {
+            let (group, after) = piece.split_once(')').ok_or(Fault::Malformed)?;
+            let (words, times) = before.rsplit_once(' ').unwrap_or(("", before));
+            part.push_words(words)?;
+            part.push_group(times, group)?;
+            before = after;
         }
+        part.push_words(before)?;
+        Ok(part)
     }
-    Ok(())
-}
 
-pub fn read_part(alloc: Global, text: &str) -> Result<Vec<u64>, Fault>
-    ensures { IfOk result (λ numbers. vec_len numbers ≤ MOST_NUMBERS) }
-{
-    let mut numbers = Vec::new(alloc);
-    let mut pieces = text.split('(');
-    let mut before = pieces.next().unwrap_or("");
-    for piece in pieces {
-        let (group, after) = piece.split_once(')').ok_or(Fault::Malformed)?;
-        let (words, times) = before.rsplit_once(' ').unwrap_or(("", before));
-        put_words(&mut numbers, words)?;
-        put_group(&mut numbers, times, group)?;
-        before = after;
+    fn push(&mut self, number: u64) -> Result<(), Fault> {
+        if self.numbers.len() == MOST_NUMBERS {
+            return Err(Fault::Malformed);
+        }
+        self.numbers.push(number)?;
+        Ok(())
     }
-    put_words(&mut numbers, before)?;
-    Ok(numbers)
+
+    fn push_words(&mut self, words: &str) -> Result<(), Fault> {
+        for word in words.split(' ').filter(|word| !word.is_empty()) {
+            self.push(number(word)?)?;
+        }
+        Ok(())
+    }
+
+    fn push_group(&mut self, times: &str, group: &str) -> Result<(), Fault> {
+        let times = if times.is_empty() { 1 } else { number(times)? };
+        let members: Vec<Member> = group
+            .split(' ')
+            .filter(|word| !word.is_empty())
+            .map(Member::read)
+            .try_collect(*self.numbers.allocator())?;
+        if times == 0 || members.is_empty() {
+            return Err(Fault::Malformed);
+        }
+        for time in 0..times {
+            for member in &members {
+                self.push(member.at(time))?;
+            }
+        }
+        Ok(())
+    }
 }
 
 #[cfg(test)]
@@ -108,8 +109,8 @@ mod tests {
             ("3(18446744073709551615+2)", &[18446744073709551615, 1, 3]),
         ];
         for (text, numbers) in cases {
-            let part = read_part(rt.alloc(), text)?;
-            assert!(rt; part.as_slice() == numbers, "{text}");
+            let part = Part::read(rt.alloc(), text)?;
+            assert!(rt; part.numbers.as_slice() == numbers, "{text}");
         }
         Ok(())
     }
@@ -137,7 +138,7 @@ mod tests {
             "320001(1)",
         ];
         for text in parts {
-            let part = read_part(rt.alloc(), text);
+            let part = Part::read(rt.alloc(), text);
             assert!(rt; matches!(part, Err(Fault::Malformed)), "{text}");
         }
     }

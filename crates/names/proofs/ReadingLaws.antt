@@ -20,7 +20,7 @@ use Rattle.rules.proofs.Names.{names_done, counted_names_back}
 use Rattle.tables.specs.NameAnswers.{read_at}
 use Rattle.names.specs.Reading.{next_at, name_at, after_at, read_on, read_from}
 use Rattle.names.specs.Laws.{ReadsAll, AcceptsRead}
-use Rattle.names.proofs.PlaceLaws.{Stands, standing, next_end, next-read, next_here, name-here, after_here, more-here}
+use Rattle.names.proofs.PlaceLaws.{Stands, standing, next_end, next_read, next_here, name-here, after_here, more-here}
 
 abbrev Sizes : List (List ℕ) → Type 0
 Sizes names = All (λ name. length name ≤ house.name_length) names
@@ -68,7 +68,7 @@ module _ (bs : List ℕ) (at : ℕ) where
       some_read (done q) f = let z : ◌≡◌ {A = ℕ} 0 1 = cc in let o : ⊥ = omega arith in absurd o
 
       go : (b : Bool) → ltb at (length bs) ≡ b → length bs ≤ at
-      go true t = some_read (read_at house bs at) (sym (next-read bs at (ltb-true at (length bs) t)) ∙ e)
+      go true t = some_read (read_at house bs at) (sym (next_read bs at (ltb-true at (length bs) t)) ∙ e)
       go false t = ltb-false at (length bs) t
 
   next-some : (q : ℕ × ℕ) → next_at bs at ≡ done (some q) → read_at house bs at ≡ done q
@@ -79,7 +79,7 @@ module _ (bs : List ℕ) (at : ℕ) where
       some_read (done p) f = cc
 
       go : (b : Bool) → ltb at (length bs) ≡ b → read_at house bs at ≡ done q
-      go true t = some_read (read_at house bs at) (sym (next-read bs at (ltb-true at (length bs) t)) ∙ e)
+      go true t = some_read (read_at house bs at) (sym (next_read bs at (ltb-true at (length bs) t)) ∙ e)
       go false t = let z : ◌≡◌ {A = ℕ} 0 1 = cc (next_end bs at (ltb-false at (length bs) t)) in let o : ⊥ = omega arith in absurd o
 
 -- what was read from a place on are the bytes from there

@@ -1,4 +1,7 @@
-// Names by the place of their length byte, over the bytes and a number, by the house's limits. The reader is made of these.
+// Names by the place of their length byte, over the bytes and a number, by the house's limits. The reader is made of these. Bytes and place stand beside
+// one another as the functions are public, and their signatures may not change.
+#![tactic(auto, using(crate::proofs::PlaceLaws::places))]
+
 ghost use Rattle.std.specs.Prelude.{◌≡◌};
 ghost use Rattle.names.specs.Reading.{next_of, next_at, name_at, after_at, begins_at, is_named};
 
@@ -31,10 +34,7 @@ pub fn name_at<'a>(names: &'a [u8], at: usize) -> &'a [u8]
 pub fn after(names: &[u8], at: usize) -> usize
     ensures { result ≡ after_at names.now at }
 {
-    match read_name(names, at, Limits::house()) {
-        Ok(name) => name.start + name.len,
-        Err(_) => at,
-    }
+    read_name(names, at, Limits::house()).map_or(at, |name| name.start + name.len)
 }
 
 // The place of name `k`'s length byte; the end of the bytes where there is no name `k`, or the bytes are refused.

@@ -1,5 +1,6 @@
 // A reader that holds the names bytes and its place, and name `k` by way of it.
-// The functions over the reader are thin: each takes it apart and leaves the work to a function on the bytes and the place.
+// The functions over the reader are thin: each takes it apart and leaves the work to a function on the bytes and the place. `next` takes the reader as it
+// is, and so is that of no Iterator: its public signature may not change.
 ghost use Rattle.std.specs.Prelude.{◌≡◌};
 ghost use Rattle.names.specs.Reading.{next_of, next_at, name_at, after_at, begins_at, name_in};
 
@@ -48,14 +49,12 @@ impl<'a> NameReader<'a> {
         ensures { (result.names ≡ self.entry.names) × (result.at ≡ after_at self.entry.names.now self.entry.at) }
     {
         let at = after(self.names, self.at);
-        NameReader {
-            names: self.names,
-            at,
-        }
+        NameReader { at, ..self }
     }
 }
 
 // Name `k`, as a part of the names bytes: names count from 1. No bytes where there is no name `k`, or the bytes are refused.
+#[tactic(auto, using(crate::proofs::PlaceLaws::name_begins))]
 pub fn name<'a>(names: &'a [u8], k: u64) -> &'a [u8]
     ensures { result.now ≡ name_in names.now k }
 {

@@ -46,7 +46,8 @@ impl TryFrom<u64> for Operator {
 }
 
 impl Operator {
-    // What it gives: a match, as some take one operand, some give a bit, and Not may find its case malformed. Ext has no right operand, and that of Not is its sort's code.
+    // What it gives: a match, as some take one operand, some give a bit, and Not may find its case malformed. Ext has no right operand, and that
+    // of Not is its sort's code.
     pub fn of(self, left: u64, right: u64) -> Result<u64, Fault> {
         Ok(match self {
             Operator::Add => operators::wrapping_add(left, right),

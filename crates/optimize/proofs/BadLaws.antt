@@ -13,14 +13,12 @@ use Rattle.std.specs.Prelude.{Result, Ok, Err, OnOk}
 use Rattle.rules.specs.Refusal.{Out, refused, done, refuse, ◌>>=◌}
 use Rattle.rules.specs.Table.{Node}
 use Rattle.rules.specs.Legal.{BadEntry}
-use Rattle.rules.specs.Room.{unpaid}
 use Rattle.rules.specs.Walk.{St, Held}
 use Rattle.rules.specs.Fold.{const_of, is_const}
 use Rattle.rules.specs.Questions.{ask}
 use Rattle.rules.specs.Visit.{Ways, visit_top}
 use Rattle.rules.specs.Whole as whole
 use Rattle.rules.specs.Whole.{Bads, Judgement, noted, judge_bad}
-use Rattle.rules.specs.Fine.{fee}
 use Rattle.rules.proofs.Base.{If}
 use Rattle.rules.proofs.Walked.{Walked, Goes, bads_walked}
 use Rattle.tables.specs.declared.refusal.Refusal.{Refusal}
@@ -30,18 +28,17 @@ use Rattle.optimize.specs.declared.call.Call.{Call}
 use Rattle.optimize.specs.declared.folder.ConstantFolder.{ConstantFolder}
 use Rattle.optimize.specs.Bounds.{count_of}
 use Rattle.rules.specs.Sections.{word_of}
-use Rattle.optimize.specs.View.{table_of, mark_of, question_of, view, outcome_of}
-use Rattle.optimize.specs.Call.{mode_is, ways_of}
+use Rattle.optimize.specs.View.{table_of, view, outcome_of}
+use Rattle.optimize.specs.Call.{ways_of}
 use Rattle.optimize.specs.Folder.{given_in, count_in, rows_in, seen, Keeps, LaidIn}
-use Rattle.optimize.specs.Laid.{Laid}
-use Rattle.optimize.specs.Bads.{Spare, SpareIn, judgement, retained_of, judged_of, reply_rule, bad_rule, visited_rule, retain_rule, list_rule}
+use Rattle.optimize.specs.Bads.{SpareIn, judgement, retained_of, judged_of, reply_rule, bad_rule, visited_rule, retain_rule, list_rule}
 use Rattle.optimize.specs.Clauses.{Walks, RetainsBad, JudgesBads}
-use Rattle.optimize.proofs.Views.{row_below, firsts-length}
+use Rattle.optimize.proofs.Views.{row_below}
 use Rattle.optimize.proofs.Steps.{table-length}
 use Rattle.optimize.proofs.Forms.{assoc, bind_same}
 use Rattle.optimize.proofs.Entries.{entries-more}
 use Rattle.optimize.proofs.VisitLaws.{visited-top}
-use Rattle.optimize.proofs.Keeps.{asked-kept, seen_by, visited}
+use Rattle.optimize.proofs.Keeps.{seen_by, spare_after, laid_after}
 
 -- ---- by the condition
 module _ (f : ConstantFolder) (how : Judging) (place c : ℕ) (h : List Held) (x : Option ℕ) (e : x ≡ const_of (rows_in f) c) where
@@ -158,88 +155,29 @@ list_start (refused z) = refl
 list_start (done r) = refl
 
 -- ---- what a judged bad leaves
-abbrev SpareBy : Call → ConstantFolder → ℕ → Type 0
-SpareBy c f' d = Spare 0 c.given.now f'.scratch.now f'.walk d
-
-abbrev LaidBy : Call → ConstantFolder → Type 0
-LaidBy c f' = Laid c.given.now c.dumps.now c.inputs.now c.replies.now (mode_is c.mode) 0 f'.res.now f'.scratch.now f'.walk
-
--- room for more questions stays through a visit
-pub spare-visited : (f f' : ConstantFolder) (k a c : ℕ) → Keeps f f' → LaidIn f → k < count_in f → Walks f f' (Ok a) (k + 1) (λ g ways vis σ. vis σ k) → SpareIn f c → SpareIn f' c
-spare-visited f f' k a c e l i v s =
-    let p = visited f f' k a e l i v in
-    let q = asked-kept f.call.given.now f.call.dumps.now f.call.inputs.now f.call.replies.now (mode_is f.call.mode) 0 f.res.now f.scratch.now f'.res.now f'.scratch.now f.walk f'.walk (k + 1) k a p.0 l i p.1 in
-    let t : SpareBy f.call f' c = omega (arith, s, q, e.scratch_length) in
-    subst (λ d. SpareBy d f' c) (sym e.call) t
-
 module _ (f f' : ConstantFolder) (how : Judging) (i b : ℕ) (stays : Bool) (l : LaidIn f) (bad : BadEntry (table_of (given_in f)) b) (k : Keeps f f') (v : RetainsBad f f' how i b (Ok stays)) where
   abbrev g : List ℕ
   g = given_in f
 
-  pub retained_is : (h : List Held) → retain_rule g (ways_of f.call) how i b (seen h f) ≡ done (seen (v h).0 f', judgement stays)
+  retained_is : (h : List Held) → retain_rule g (ways_of f.call) how i b (seen h f) ≡ done (seen (v h).0 f', judgement stays)
   unfolding retained_of
   retained_is h = sym (v h).1
 
-  walked : Walked (table_of g) (ways_of f.call) f.call.inputs.now f.call.replies.now l.legal 1 (seen l.held f) (seen_by f.call (v l.held).0 f')
+  walked : Walked (table_of g) (ways_of f.call) f.call.inputs.now f.call.replies.now f.call.table.legal 1 (seen l.held f) (seen_by f.call (v l.held).0 f')
   unfolding whole.judge_bads
   walked =
-      subst (If (λ (q : Bads). Goes (table_of g) (ways_of f.call) f.call.inputs.now f.call.replies.now l.legal 1 (seen l.held f) q.after))
+      subst (If (λ (q : Bads). Goes (table_of g) (ways_of f.call) f.call.inputs.now f.call.replies.now f.call.table.legal 1 (seen l.held f) q.after))
       (list_step g (ways_of f.call) how i (seen l.held f) b [] (seen_by f.call (v l.held).0 f') (judgement stays) (retained_is l.held ∙ ap (λ c. done (seen_by c (v l.held).0 f', judgement stays)) k.call))
-      (bads_walked (table_of g) (ways_of f.call) f.call.inputs.now f.call.replies.now l.legal how.solver how.terminate how.section i (seen l.held f) (b ∷ []) (bad, tt)) l.fine
-
-  abbrev n : ℕ
-  n = count_in f
-
-  abbrev S : List ℕ
-  S = f.scratch.now
-
-  abbrev T : List ℕ
-  T = f'.scratch.now
-
-  asked-more : f'.walk.asked + unpaid (λ k. 3) n (mark_of n T) ≤ f.walk.asked + unpaid (λ k. 3) n (mark_of n S) + 1
-  unfolding view
-  asked-more =
-      let s = rw (table-length g) at walked.asks in
-      omega (arith, s, firsts-length f.walk.asked (question_of n S), firsts-length f'.walk.asked (question_of n T))
-
-  made_kept : f'.walk.made + unpaid (λ k. 1) n (mark_of n T) ≤ f.walk.made + unpaid (λ k. 1) n (mark_of n S)
-  unfolding view
-  made_kept = rw (table-length g) at walked.few
-
-  looked-kept : f'.walk.looked + unpaid (fee (table_of g)) n (mark_of n T) ≤ f.walk.looked + unpaid (fee (table_of g)) n (mark_of n S)
-  unfolding view
-  looked-kept =
-      let s = walked.looks in
-      omega (arith, s, ap (λ m. unpaid (fee (table_of g)) m (mark_of n T)) (table-length g), ap (λ m. unpaid (fee (table_of g)) m (mark_of n S)) (table-length g))
-
-  pub spare_retained : (c : ℕ) → SpareIn f (c + 1) → SpareIn f' c
-  spare_retained c s =
-      let q : SpareBy f.call f' c = omega (arith, s, asked-more, k.scratch_length) in
-      subst (λ d. SpareBy d f' c) (sym k.call) q
-
-  pub laid_retained : SpareIn f 1 → LaidIn f'
-  laid_retained s =
-      let q : LaidBy f.call f' = record {
-        legal = l.legal;
-        small = l.small;
-        whole = l.whole;
-        room = omega (arith, l.room, k.res_length);
-        held = (v l.held).0;
-        fine = walked.fine;
-        few = omega (arith, l.few, made_kept);
-        asks = omega (arith, s, asked-more, k.scratch_length);
-        looks = omega (arith, l.looks, looked-kept);
-      } in
-      subst (λ d. LaidBy d f') (sym k.call) q
+      (bads_walked (table_of g) (ways_of f.call) f.call.inputs.now f.call.replies.now f.call.table.legal how.solver how.terminate how.section i (seen l.held f) (b ∷ []) (bad, tt)) l.fine
 
 -- whatever the judgement is
 module _ (f f' : ConstantFolder) (how : Judging) (i b : ℕ) (l : LaidIn f) (bad : BadEntry (table_of (given_in f)) b) (k : Keeps f f') where
   pub laid_judged : (r : Result Bool Refusal) → RetainsBad f f' how i b r → SpareIn f 1 → OnOk r (LaidIn f')
-  laid_judged (Ok stays) v s = laid_retained f f' how i b stays l bad k v s
+  laid_judged (Ok stays) v s = laid_after f f' k l 1 (v l.held).0 (walked f f' how i b stays l bad k v) s
   laid_judged (Err z) v s = tt
 
   pub spare_judged : (r : Result Bool Refusal) → RetainsBad f f' how i b r → OnOk r ((c : ℕ) → SpareIn f (c + 1) → SpareIn f' c)
-  spare_judged (Ok stays) v = spare_retained f f' how i b stays l bad k v
+  spare_judged (Ok stays) v = spare_after f f' k l 1 (v l.held).0 (walked f f' how i b stays l bad k v)
   spare_judged (Err z) v = tt
 
 pub bad-inside : (g : List ℕ) (b : ℕ) → BadEntry (table_of g) b → b < count_of g

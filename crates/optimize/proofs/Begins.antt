@@ -2,7 +2,7 @@
 -- By the rules' invariant of a start whose sequentials are judged.
 -- Assumes nothing.
 use Prim.Native.Nat.{ℕ, zero, suc, ◌+◌, ◌*◌, ◌≤◌}
-use mathlib.Core.Path.{◌≡◌, refl, sym, subst}
+use mathlib.Core.Path.{◌≡◌, refl, ap, sym, subst}
 use mathlib.Core.Bool.{Bool, true, false}
 use mathlib.Core.List.{List, []}
 use native.Mathlib.Nat.{mul-le-mul}
@@ -23,7 +23,7 @@ use Rattle.rules.proofs.Budget.{unpaid-all}
 use Rattle.rules.proofs.Room.{sum_bound}
 use Rattle.rules.proofs.Shape.{start_shape, start-books}
 use Rattle.rules.proofs.Walked.{Walked, sequentials_walked}
-use Rattle.optimize.specs.Bounds.{count_of, most_looked, most_nodes, room_of, rows_end}
+use Rattle.optimize.specs.Bounds.{count_of, most_looked, most_nodes}
 use Rattle.optimize.specs.View.{table_of, firsts, ways_in, mark_of, view}
 use Rattle.optimize.specs.ResultView.{untouched}
 use Rattle.optimize.specs.Laid.{Laid}
@@ -61,28 +61,23 @@ module _ (g dumps ins reps : List ℕ) (mode : Mode) (reserve : ℕ) (legal : Al
   begin = start (table_of g) ins reps
 
   begin-fine : Fine (table_of g) ways ins reps begin
-  begin-fine = record { shape = start_shape (table_of g) legal (λ k. fresh) (λ k. refl); books = start-books (table_of g) mode.reading ins reps; used = λ r l u. let o : ⊥ = omega arith in absurd o; marked = tt; fair = omega arith; gained = omega arith }
+  begin-fine = record { shape = start_shape (table_of g) legal (λ k. fresh) (λ k. refl); books = start-books (table_of g) mode.reading ins reps; used = λ r l u. absurd (omega arith); marked = tt; fair = omega arith; gained = omega arith }
 
   pub begins-fine : (ss R S : List ℕ) → All (Sequential (table_of g)) ss → view [] g ins reps R S untouched ≡ (judge_sequentials (table_of g) begin ss).0 → Fine (table_of g) ways ins reps (view [] g ins reps R S untouched)
   begins-fine ss R S h e = subst (λ (σ : St). Fine (table_of g) ways ins reps σ) (sym e) ((sequentials_walked (table_of g) ways ins reps legal begin ss refl h).goes begin-fine).fine
 
-  pub begins : (ss R S : List ℕ) → All (Sequential (table_of g)) ss → count_of g ≤ most_nodes → rows_end (count_of g) ≤ length g → room_of (count_of g) ≤ length R → 2 * count_of g + 12 * count_of g + reserve ≤ length S
+  pub begins : (ss R S : List ℕ) → All (Sequential (table_of g)) ss → count_of g ≤ most_nodes → 2 * count_of g + 12 * count_of g + reserve ≤ length S
       → view [] g ins reps R S untouched ≡ (judge_sequentials (table_of g) begin ss).0 → Laid g dumps ins reps mode reserve R S untouched
   unfolding view firsts
-  begins ss R S h small whole room asks e =
+  begins ss R S h small asks e =
       let n = table-length g in
       let w : Walked (table_of g) ways ins reps legal 0 begin (view [] g ins reps R S untouched) = subst (λ (σ : St). Walked (table_of g) ways ins reps legal 0 begin σ) (sym e) ((sequentials_walked (table_of g) ways ins reps legal begin ss refl h).goes begin-fine) in
-      let few : 0 + unpaid (λ k. 1) (count_of g) (mark_of (count_of g) S) ≤ 0 + unpaid (λ k. 1) (count_of g) (λ k. fresh) = subst (λ (c : ℕ). 0 + unpaid (λ k. 1) c (mark_of (count_of g) S) ≤ 0 + unpaid (λ k. 1) c (λ k. fresh)) n w.few in
-      let asked : 0 + unpaid (λ k. 3) (count_of g) (mark_of (count_of g) S) ≤ 0 + unpaid (λ k. 3) (count_of g) (λ k. fresh) + 0 = subst (λ (c : ℕ). 0 + unpaid (λ k. 3) c (mark_of (count_of g) S) ≤ 0 + unpaid (λ k. 3) c (λ k. fresh) + 0) n w.asks in
-      let looked : 0 + unpaid (fee (table_of g)) (count_of g) (mark_of (count_of g) S) ≤ 0 + unpaid (fee (table_of g)) (length (table_of g)) (λ k. fresh) = subst (λ (c : ℕ). 0 + unpaid (fee (table_of g)) c (mark_of (count_of g) S) ≤ 0 + unpaid (fee (table_of g)) (length (table_of g)) (λ k. fresh)) n w.looks in
+      let few = rw n at w.few in
+      let asked = rw n at w.asks in
       record {
-        legal = legal;
-        small = small;
-        whole = whole;
-        room = room;
         held = [];
         fine = w.fine;
         few = omega (arith, few, unpaid-all 1 (count_of g));
         asks = omega (arith, asked, unpaid-all 3 (count_of g));
-        looks = omega (arith, looked, all_fees (table_of g) (omega (arith, n)));
+        looks = omega (arith, w.looks, ap (λ c. unpaid (fee (table_of g)) c (mark_of (count_of g) S)) n, all_fees (table_of g) (omega (arith, n)));
       }

@@ -27,13 +27,12 @@ use Rattle.rules.proofs.Values.{meaning-same}
 use Rattle.rules.proofs.Walked.{folded}
 use Rattle.rules.proofs.Demand.{worth-node, worth-false, worth-true, worth-made}
 use Rattle.rules.proofs.Laws.{replacement_before, replacement_sort, row_keeps, operands-below}
-use Rattle.rules.proofs.Call.{passed, demand3_of_call}
+use Rattle.rules.proofs.Call.{passed, formed, demand3_of_call}
 use Rattle.rules.proofs.Numbered.{accepted-answer}
 use Rattle.std.specs.Prelude.{Ok}
 use Rattle.optimize.specs.Bounds.{count_of}
 use Rattle.optimize.specs.View.{node_of}
 use Rattle.optimize.specs.Demand.{Contract, constants_on, replacements_on, times, sort_in, worth_in, SortsIn, KeepsIn, Kept, Demand3OfResult}
-use Rattle.optimize.proofs.EntryLaws.{well_formed}
 use Rattle.optimize.proofs.ReadBack.{ReadBack, read_back}
 use Rattle.optimize.proofs.Dropped.{each-listed, fold_lost}
 
@@ -150,7 +149,7 @@ module _ (entry : Entry) (call : Call) (count : ℕ) (Q S : List ℕ) (c : Contr
   accepted-kept a e =
       let p = passed house entry call a e in
       let words : Q ≡ words_of a ++ replicate (call.result_room - length (words_of a)) 0 = c.result ∙ ap (result_of call.result_room) e in
-      let wf : WellFormed a.model = subst WellFormed p.model_is (well_formed entry p.names p.sections p.judged) in
+      let wf : WellFormed a.model = subst WellFormed p.model_is (formed entry p.names p.sections p.judged) in
       let back : ReadBack a.model a.folded Q = subst (ReadBack a.model a.folded) (sym words) (read_back a.model a.folded (replicate (call.result_room - length (words_of a)) 0)) in
       record {
         accepted = a;

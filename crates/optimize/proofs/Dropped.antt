@@ -18,7 +18,7 @@ use Rattle.rules.specs.Walk.{St, start}
 use Rattle.rules.specs.Fold.{const_of}
 use Rattle.rules.specs.Visit.{Ways, visit_top}
 use Rattle.rules.specs.Whole.{ways_of, judge_sequentials, Bads, Judgement, stay, drop, visit_all, judge_bad, noted, judge_bads, Folded, bads, last_question, fold_bads, fold}
-use Rattle.rules.proofs.Base.{If, if-bind, if-always}
+use Rattle.rules.proofs.Base.{If, if-bind, if-after}
 use Rattle.optimize.specs.Demand.{times}
 
 -- ---- how often an entry is listed
@@ -29,7 +29,7 @@ times_append b (x ∷ xs) ys = omega (arith, times_append b xs ys)
 
 pub each-listed : (P : ℕ → Type 0) (xs : List ℕ) → All P xs → (b : ℕ) → 0 < times b xs → P b
 unfolding times
-each-listed P [] h b l = let o : ⊥ = omega arith in absurd o
+each-listed P [] h b l = absurd (omega arith)
 each-listed P (x ∷ xs) h b l = go (eqb b x) refl l λ i. each-listed P xs h.1 b i
   where
     go : (z : Bool) → eqb b x ≡ z → 0 < bit z + times b xs → (0 < times b xs → P b) → P b
@@ -50,10 +50,9 @@ module _ (t : List Node) (ways : Ways) (solver terminate : Bool) (section : ℕ)
   unfolding judge_bads times
   judged-split place σ [] = λ b. refl
   judged-split place σ (x ∷ bs) =
-      if-bind (λ p. Unit {0}) (Split (x ∷ bs)) (visit_top t ways σ x) _ (if-always (λ p. Unit {0}) (visit_top t ways σ x) (λ p. tt))
-      (λ p _. if-bind (λ q. Unit {0}) (Split (x ∷ bs)) (judge_bad t ways solver terminate section place p.0 (p.0.rows x).a (const_of p.0.rows (p.0.rows x).a)) _
-      (if-always (λ q. Unit {0}) (judge_bad t ways solver terminate section place p.0 (p.0.rows x).a (const_of p.0.rows (p.0.rows x).a)) (λ q. tt))
-      (λ q _. if-bind (Split bs) (Split (x ∷ bs)) (judge_bads t ways solver terminate section (suc place) q.0 bs) _ (judged-split (suc place) q.0 bs)
+      if-after (Split (x ∷ bs)) (visit_top t ways σ x) _
+      (λ p. if-after (Split (x ∷ bs)) (judge_bad t ways solver terminate section place p.0 (p.0.rows x).a (const_of p.0.rows (p.0.rows x).a)) _
+      (λ q. if-bind (Split bs) (Split (x ∷ bs)) (judge_bads t ways solver terminate section (suc place) q.0 bs) _ (judged-split (suc place) q.0 bs)
       (λ r h. noted-split q.1 x bs r h)))
 
 -- ---- the whole
@@ -69,8 +68,8 @@ module _ (m : Model) (how : Mode) where
   unfolding fold_bads
   fold_bads_lost true σ seqs =
       if-bind (Split m.initial) Lost (bads m how false true 3 σ m.initial) _ (bads_split false true 3 σ m.initial)
-      (λ i h. if-bind (λ p. Unit {0}) Lost (last_question m how i.after i.stay) _ (if-always (λ p. Unit {0}) (last_question m how i.after i.stay) (λ p. tt))
-      (λ p _. record { initial = λ b l. omega (arith, h b, l); later = λ b l. omega (arith, l) }))
+      (λ i h. if-after Lost (last_question m how i.after i.stay) _
+      (λ p. record { initial = λ b l. omega (arith, h b, l); later = λ b l. omega (arith, l) }))
   fold_bads_lost false σ seqs =
       if-bind (Split m.initial) Lost (bads m how true how.terminate 3 σ m.initial) _ (bads_split true how.terminate 3 σ m.initial)
       (λ i h. if-bind (Split m.later) Lost (bads m how true how.terminate 4 i.after m.later) _ (bads_split true how.terminate 4 i.after m.later)
@@ -83,9 +82,7 @@ module _ (m : Model) (how : Mode) where
   unfolding fold
   all_lost =
       let j : St × List ℕ = judge_sequentials m.table (start m.table m.inputs m.replies) m.sequentials in
-      if-bind (λ σ. Unit {0}) Lost (visit_all m.table (ways_of m how) j.0 j.1) _
-      (if-always (λ σ. Unit {0}) (visit_all m.table (ways_of m how) j.0 j.1) (λ σ. tt))
-      (λ σ _. fold_bads_lost how.one_query σ j.1)
+      if-after Lost (visit_all m.table (ways_of m how) j.0 j.1) _ (λ σ. fold_bads_lost how.one_query σ j.1)
 
   pub fold_lost : (f : Folded) → fold m how ≡ done f → Lost f
   fold_lost f e = subst (If Lost) e all_lost

@@ -15,7 +15,7 @@ use lib.Dec.{eqb}
 use lib.ListN.{length, get_or, take, drop, replicate}
 use Rattle.btor.specs.Operators.{bit}
 use Rattle.rules.specs.Refusal.{Refusal, Out, refused, done, ◌>>=◌}
-use Rattle.rules.specs.Table.{Row, Node, kind_of, kind_code, row_width}
+use Rattle.rules.specs.Table.{Row, kind_of, kind_code, row_width}
 use Rattle.rules.specs.Model.{Model, Mode}
 use Rattle.rules.specs.Check.{known_kind, check}
 use Rattle.rules.specs.Legal.{WellFormed, no_row, row_at, Accepted}
@@ -26,11 +26,11 @@ use Rattle.rules.specs.Sections as rules
 use Rattle.rules.specs.Call.{Entry, impl, with_solver, with_input, Call, Judged, judged, brought, model_from, fold_judged, outcome, left, answer_of, result_of, need_of}
 use Rattle.rules.proofs.Base.{and_both, code-of-kind}
 use Rattle.rules.proofs.Sections.{through, same-done, never, encode-cut, row-at}
-use Rattle.rules.proofs.Call.{judged_as_given}
+use Rattle.rules.proofs.Call.{formed}
 use Rattle.rules.proofs.Check.{accepted}
 use Rattle.rules.proofs.Judged.{outcome-is}
 use Rattle.tables.specs.Refusals.{refusal_of}
-use Rattle.tables.specs.SectionAnswers.{sections_in, words_in, Inside}
+use Rattle.tables.specs.SectionAnswers.{sections_in, words_in}
 use Rattle.tables.specs.NameAnswers.{dump_mark}
 use Rattle.tables.specs.Judging.{rows_in, IsCut, call_with, judged_count, verdict_of}
 use Rattle.tables.specs.declared.refusal.Refusal as tables
@@ -42,8 +42,10 @@ use Rattle.std.specs.Prelude.{Result, Ok, Err}
 use Rattle.optimize.specs.Bounds.{count_of}
 use Rattle.rules.specs.Sections.{word_of}
 use Rattle.optimize.specs.ResultView.{KindsKnown}
-use Rattle.optimize.specs.Runs.{Ends, Runs}
-use Rattle.optimize.specs.Entries.{answered, between, inputs_of, replies_of, result_left, InOrder, part_of, model_parts, RunnableParts}
+use Rattle.optimize.specs.declared.lists.Lists.{Lists}
+use Rattle.optimize.specs.Lists.{Table, ListsCut, between, part_of}
+use Rattle.optimize.specs.Runs.{model_in, Runnable, Ends, Runs}
+use Rattle.optimize.specs.Entries.{answered, inputs_of, replies_of, result_left, InOrder, model_parts, RunnableParts}
 use Rattle.optimize.proofs.Given.{count-is, table_is, part-is}
 use Rattle.optimize.proofs.Judged.{Passed, judged-passed}
 
@@ -82,11 +84,6 @@ pub dumps_are : (bs dumps : List ℕ) (names : List (List ℕ)) → names_of hou
 dumps_are bs dumps names e marks = fun_ext (λ k. ap (λ (n : ℕ). eqb n 1) (marks k ∙ accepted_mark house bs names e k) ∙ bit_back (dump names k))
 
 -- ---- the model in the parts of the words
-same-model : (t u : List Node) (d f : ℕ → Bool) (a b c i r a' b' c' i' r' : List ℕ) → t ≡ u → d ≡ f → a ≡ a' → b ≡ b' → c ≡ c' → i ≡ i' → r ≡ r'
-    → ◌≡◌ {A = Model} (record { table = t; dump = d; sequentials = a; initial = b; later = c; inputs = i; replies = r })
-    (record { table = u; dump = f; sequentials = a'; initial = b'; later = c'; inputs = i'; replies = r' })
-same-model t u d f a b c i r a' b' c' i' r' e₁ e₂ e₃ e₄ e₅ e₆ e₇ = cc
-
 module _ (ws : List ℕ) (s : Sections) (h : IsCut house ws s) where
   nothing : (at : ℕ) → between ws at at ≡ []
   nothing at = let z : at - at ≡ 0 = omega arith in ap (λ (n : ℕ). take n (drop at ws)) z
@@ -116,9 +113,9 @@ module _ (ws : List ℕ) (s : Sections) (h : IsCut house ws s) where
       at_4 = part-is ws _ s.later h.inside.later
 
       go : (e : Entry) → model_parts ws dumps s (inputs_of e ws s.inputs) (replies_of e ws s.replies) ≡ model_from names (brought e (sections_in ws s))
-      go impl = same-model _ _ _ _ _ _ _ _ _ _ _ _ _ _ (table_is ws s h) d at_2 at-3 at_4 (inputs_are impl) (replies_are impl)
-      go with_solver = same-model _ _ _ _ _ _ _ _ _ _ _ _ _ _ (table_is ws s h) d at_2 at-3 at_4 (inputs_are with_solver) (replies_are with_solver)
-      go with_input = same-model _ _ _ _ _ _ _ _ _ _ _ _ _ _ (table_is ws s h) d at_2 at-3 at_4 (inputs_are with_input) (replies_are with_input)
+      go impl = cc (table_is ws s h, d, at_2, at-3, at_4, inputs_are impl, replies_are impl)
+      go with_solver = cc (table_is ws s h, d, at_2, at-3, at_4, inputs_are with_solver, replies_are with_solver)
+      go with_input = cc (table_is ws s h, d, at_2, at-3, at_4, inputs_are with_input, replies_are with_input)
 
   inputs-fewer : (e : Entry) → length (inputs_of e ws s.inputs) ≤ length (words_in ws 1 s.inputs)
   inputs-fewer e = let q = ap length (inputs_are e) in omega (arith, q, go e)
@@ -143,16 +140,6 @@ module _ (ws : List ℕ) (s : Sections) (h : IsCut house ws s) where
       let known = (and_both (known_kind (row_at (rows_in ws s) k).code) _ (meets.rows k (omega (arith, count-is ws s h, rows-count ws s)))).0 in
       subst (λ (c : ℕ). kind_code (kind_of c) ≡ c) (code_in k l) (code-of-kind (row_at (rows_in ws s) k).code known)
 
-pub well_formed : (e : Entry) (names : List (List ℕ)) (S : rules.Sections) → check (length names) S.rows (model_from names S) ≡ none
-    → WellFormed (model_from names (brought e S))
-unfolding Accepted
-well_formed impl names S h =
-    (accepted (length names) S.rows (dump names) S.sequentials S.initial S.later S.inputs S.replies h).model
-well_formed with_solver names S h =
-    (accepted (length names) S.rows (dump names) S.sequentials S.initial S.later [] S.replies (judged_as_given with_solver names S ∙ h)).model
-well_formed with_input names S h =
-    (accepted (length names) S.rows (dump names) S.sequentials S.initial S.later S.inputs [] (judged_as_given with_input names S ∙ h)).model
-
 pub scratch-left : (e : Entry) (call : Call) (n : ℕ) → n ≡ call.scratch_room → replicate n 0 ≡ (left house e call).scratch
 unfolding left
 scratch-left e call n l = ap (λ (n : ℕ). replicate n 0) l
@@ -161,19 +148,7 @@ scratch-left e call n l = ap (λ (n : ℕ). replicate n 0) l
 any-replies : (ws dumps : List ℕ) (s : Sections) (i r r' : List ℕ) (result_room scratch_room : ℕ)
     → RunnableParts ws dumps s i r result_room scratch_room → RunnableParts ws dumps s i r' result_room scratch_room
 unfolding RunnableParts
-any-replies ws dumps s i r r' result_room scratch_room h =
-    let l = h.legal in
-    record {
-      legal = record { nodes = l.nodes; sequentials = l.sequentials; once = l.once; initial = l.initial; later = l.later };
-      known = h.known;
-      small = h.small;
-      whole = h.whole;
-      bads = h.bads;
-      sequentials = h.sequentials;
-      inputs = h.inputs;
-      room = h.room;
-      scratch = h.scratch;
-    }
+any-replies ws dumps s i r r' result_room scratch_room h = assumption h
 
 -- ---- a call in order
 module _ (call : Call) (s : Sections) (p : InOrder call s) (dumps : List ℕ) (marks : (k : ℕ) → get_or dumps k 0 ≡ dump_mark house call.names k) where
@@ -199,18 +174,28 @@ module _ (call : Call) (s : Sections) (p : InOrder call s) (dumps : List ℕ) (m
       let l₅ = inputs-fewer w s h e in
       let rr = subst (λ (S : rules.Sections). need_of S ≤ call.result_room) p.sections passed.result-room in
       let sr = subst (λ (S : rules.Sections). need_of S ≤ call.scratch_room) p.sections passed.scratch-room in
-      let lies = h.inside.nodes in
       let table = subst (λ (S : rules.Sections). check (length p.with.names) S.rows (model_from p.with.names S) ≡ none) p.sections passed.table in
       record {
-        legal = subst WellFormed (sym (brought-is e)) (well_formed e p.with.names p.with.sections passed.table);
+        legal = subst WellFormed (sym (brought-is e)) (formed e p.with.names p.with.sections passed.table);
         known = kinds-known w s h p.with.names table;
-        small = omega (arith, counted, rows, within.nodes);
-        whole = omega (arith, counted, lies.starts, lies.ends, lies.within);
         bads = omega (arith, l₃, l₄, within.initial, within.later);
         sequentials = omega (arith, l₂, within.sequentials);
         inputs = omega (arith, l₅, within.inputs);
         room = omega (arith, counted, rows, l₂, l₃, l₄, l₅, rr);
         scratch = omega (arith, counted, rows, l₂, l₃, l₄, l₅, sr);
+      }
+
+  pub table : Table call.words
+  unfolding RunnableParts model_parts
+  table =
+      let w = call.words in
+      let lies = p.is_cut.inside.nodes in
+      let counted = count-is w s p.is_cut in
+      let within = (encode-cut house w (sections_in w s) p.is_cut.whole).1 in
+      record {
+        legal = (runnable impl).legal.nodes;
+        small = omega (arith, counted, rows-count w s, within.nodes);
+        whole = omega (arith, counted, lies.starts, lies.ends, lies.within);
       }
 
   -- the outcome by the parts
@@ -239,15 +224,20 @@ module _ (call : Call) (s : Sections) (p : InOrder call s) (dumps : List ℕ) (m
       let o : outcome house e call ≡ refused (refusal_of r) = outcome_parts e ∙ ap (λ q. q >>= λ f. done (record { how = mode_of call.mode; model = m; folded = f })) h in
       (sym (ap answer_of o), ap (λ (n : ℕ). replicate n 0) l ∙ sym (ap (result_of call.result_room) o))
 
-  -- the same for the parts as the code has them
-  module _ (e : Entry) (i r : List ℕ) (p₅ : i ≡ inputs_of e call.words s.inputs) where
-    pub parts_ready : Inside call.words s × RunnableParts call.words dumps s i r call.result_room call.scratch_room
-    parts_ready = rw p₅ (p.is_cut.inside, any-replies call.words dumps s _ _ r call.result_room call.scratch_room (runnable e))
+  -- the same for the inputs, the replies and the lists as the code has them
+  module _ (e : Entry) (i r : List ℕ) (l : Lists) (cut : ListsCut l call.words s) (p₅ : i ≡ inputs_of e call.words s.inputs) where
+    pub parts_ready : Runnable call.words dumps l.sequentials.now l.initial.now l.later.now i r call.result_room call.scratch_room
+    unfolding RunnableParts
+    parts_ready =
+        rw (p₅, cut.sequentials, cut.initial, cut.later) (any-replies call.words dumps s _ _ r call.result_room call.scratch_room (runnable e))
 
-    pub parts_left : r ≡ replies_of e call.words s.replies → (how : Mode) → how ≡ mode_of call.mode → (o : Result ℕ tables.Refusal) (Q : List ℕ) → length Q ≡ call.result_room → Runs (model_parts call.words dumps s i r) how call.result_room o Q
+    pub parts_left : r ≡ replies_of e call.words s.replies → (how : Mode) → how ≡ mode_of call.mode → (o : Result ℕ tables.Refusal) (Q : List ℕ) → length Q ≡ call.result_room
+        → Runs (model_in call.words dumps l.sequentials.now l.initial.now l.later.now i r) how call.result_room o Q
         → (answered o ≡ (left house e call).answer) × (result_left o Q ≡ (left house e call).result)
-    parts_left p₆ how m o Q l h =
-        folded_left e o Q l
+    unfolding model_parts
+    parts_left p₆ how m o Q size h =
+        let same : model_in call.words dumps l.sequentials.now l.initial.now l.later.now i r ≡ model_parts call.words dumps s (inputs_of e call.words s.inputs) (replies_of e call.words s.replies) =
+        rw (p₅, p₆, cut.sequentials, cut.initial, cut.later) refl in
+        folded_left e o Q size
         (subst (λ (how : Mode). Runs (model_parts call.words dumps s (inputs_of e call.words s.inputs) (replies_of e call.words s.replies)) how call.result_room o Q) m
-        (subst (λ (i : List ℕ). Runs (model_parts call.words dumps s i (replies_of e call.words s.replies)) how call.result_room o Q) p₅
-        (subst (λ (r : List ℕ). Runs (model_parts call.words dumps s i r) how call.result_room o Q) p₆ h)))
+        (subst (λ (m : Model). Runs m how call.result_room o Q) same h))

@@ -1,15 +1,15 @@
 -- What comes after a node's operands: it is finished, asked about, takes an input or is forwarded, as the rules say.
 -- Assumes nothing.
-use Prim.Native.Nat.{ℕ, suc, ◌+◌}
+use Prim.Native.Nat.{ℕ, suc, ◌+◌, ◌<◌, ◌≤◌}
 use mathlib.Core.Path.{◌≡◌, refl, ap, ap₂, sym, ◌∙◌}
 use mathlib.Core.Bool.{Bool, true, false}
 use mathlib.Core.Option.{Option}
 use mathlib.Core.List.{List, [], ◌∷◌, ◌++◌}
 use native.Mathlib.Numerals.{add-one}
-use Rattle.std.specs.Prelude.{zero, Some, None, slice_get}
+use Rattle.std.specs.Prelude.{Some, None}
 use Rattle.std.proofs.Common.{add-zero}
-use borrow.Author.Rules.{rules}
-use lib.ListN.{drop}
+use lib.ListN.{length, get_or, drop, drop_of_length-le}
+use lib.Seq.{drop-cons}
 use borrow.Author.Tests.{eq-eqb, ne_eqb}
 use Rattle.btor.specs.Operators.{Reading}
 use Rattle.rules.specs.Refusal.{Out, done, refuse}
@@ -113,12 +113,12 @@ module _ (h : List Held) (g inputs replies R S : List ℕ) (w : Walk) (ways : Wa
       ∙ sym (ap (λ z. forward (table_of g) ways k σ m (constant_is z)) e))
 
 pub tally_is : (h : List Held) (g inputs replies R S : List ℕ) (w : Walk) (l p : ℕ)
-    → view h g inputs replies R S (record { made = w.made; taken = w.taken; used = w.used; asked = w.asked; looked = w.looked + l; passed = w.passed + p }) ≡ add_tally (view h g inputs replies R S w) l p
+    → view h g inputs replies R S (record w { looked = w.looked + l; passed = w.passed + p }) ≡ add_tally (view h g inputs replies R S w) l p
 unfolding view
 tally_is h g inputs replies R S w l p = refl
 
 pub looked_is : (h : List Held) (g inputs replies R S : List ℕ) (w : Walk) (l : ℕ)
-    → view h g inputs replies R S (record { made = w.made; taken = w.taken; used = w.used; asked = w.asked; looked = w.looked + l; passed = w.passed }) ≡ add_tally (view h g inputs replies R S w) l 0
+    → view h g inputs replies R S (record w { looked = w.looked + l }) ≡ add_tally (view h g inputs replies R S w) l 0
 unfolding view
 looked_is h g inputs replies R S w l = rw (add-zero w.passed)
 
@@ -150,34 +150,20 @@ module _ (g : List ℕ) (ways : Ways) (σ : St) (k : ℕ) where
       unfolding take_input
       take-made s l = sym (ap take_at e ∙ rw (take_input, d, ne_eqb (word_of g k 1) 3 s, l))
 
-left-none : (l : List ℕ) (k : ℕ) → slice_get l k ≡ None → drop k l ≡ []
-left-none [] zero e = refl
-left-none [] (suc k) e = refl
-left-none (x ∷ l) zero e = let o : ⊥ = search (rules, e) in absurd o
-left-none (x ∷ l) (suc k) e = left-none l k e
-
-some-same : (y x : ℕ) → Some y ≡ Some x → y ≡ x
-some-same y x e = cc
-
-left-some : (l : List ℕ) (k x : ℕ) → slice_get l k ≡ Some x → drop k l ≡ x ∷ drop (suc k) l
-left-some [] k x e = let o : ⊥ = search (rules, e) in absurd o
-left-some (y ∷ l) zero x e = ap (λ z. z ∷ l) (some-same y x e)
-left-some (y ∷ l) (suc k) x e = left-some l k x e
-
 module _ (h : List Held) (g inputs replies R S : List ℕ) (w : Walk) where
   inputs_are : (view h g inputs replies R S w).inputs ≡ drop w.taken inputs
   unfolding view
   inputs_are = refl
 
-  pub inputs-none : slice_get inputs w.taken ≡ None → (view h g inputs replies R S w).inputs ≡ []
-  inputs-none e = inputs_are ∙ left-none inputs w.taken e
+  pub inputs-none : length inputs ≤ w.taken → (view h g inputs replies R S w).inputs ≡ []
+  inputs-none l = inputs_are ∙ drop_of_length-le inputs l
 
-  pub inputs-some : (x : ℕ) → slice_get inputs w.taken ≡ Some x → (view h g inputs replies R S w).inputs ≡ x ∷ drop (suc w.taken) inputs
-  inputs-some x e = inputs_are ∙ left-some inputs w.taken x e
+  pub inputs-some : (x : ℕ) → w.taken < length inputs → x ≡ get_or inputs w.taken x → (view h g inputs replies R S w).inputs ≡ x ∷ drop (suc w.taken) inputs
+  inputs-some x l e = inputs_are ∙ drop-cons inputs w.taken x l ∙ ap (λ y. y ∷ drop (suc w.taken) inputs) (sym e)
 
   -- the state that took the input is held by the new constant
   pub took : (k r : ℕ)
-      → view (h ++ (record { state = k; by = r } ∷ [])) g inputs replies R S (record { made = w.made; taken = w.taken + 1; used = w.used; asked = w.asked; looked = w.looked; passed = w.passed })
+      → view (h ++ (record { state = k; by = r } ∷ [])) g inputs replies R S (record w { taken = w.taken + 1 })
       ≡ add_held (set_inputs (view h g inputs replies R S w) (drop (suc w.taken) inputs)) k r
   unfolding view
   took k r = rw (add-one w.taken)

@@ -109,7 +109,8 @@ module _ (g : List ℕ) (ways : Ways) (vis : St → ℕ → Out (St × ℕ)) (σ
 -- a node is processed as its form says
 pub formed : (f f' : ConstantFolder) (r : Result ℕ Refusal) (n : ℕ) (F : Form) → F ≡ form_at (given_in f) n
     → Walks f f' r n (λ g ways vis σ. by_form g ways vis F σ n) → Walks f f' r n (λ g ways vis σ. process_of g ways vis σ n)
-formed f f' r n F e w h fuel l = comes (w h fuel l) (process-is (given_in f) (ways_of f.call) (visit_of (given_in f) (ways_of f.call) fuel) (seen h f) n F e)
+formed f f' r n F e w =
+    record { walked = λ h fuel l. comes (w.walked h fuel l) (process-is (given_in f) (ways_of f.call) (visit_of (given_in f) (ways_of f.call) fuel) (seen h f) n F e) }
 
 -- ---- operands before their node
 before-state : (g : List ℕ) (k : ℕ) (b : Bool) → All (λ x. x < k) (cond b (word_of g k 2 ∷ []) []) → Before (cond b (Form.One Single.Stays) Form.Free) g k

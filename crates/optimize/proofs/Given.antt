@@ -15,7 +15,7 @@ use Rattle.tables.specs.Judging.{table_in, IsCut}
 use Rattle.tables.specs.declared.sections.Part.{Part}
 use Rattle.tables.specs.declared.sections.Sections.{Sections}
 use Rattle.tables.proofs.JudgeLaws.{rows-count, node_in}
-use Rattle.tables.proofs.ListLaws.{table-count}
+use Rattle.tables.proofs.ListLaws.{table_count}
 use Rattle.rules.proofs.Sections.{encode-cut}
 use Rattle.optimize.specs.Bounds.{count_of}
 use Rattle.optimize.specs.View.{node_of, firsts, table_of}
@@ -34,7 +34,7 @@ module _ (ws : List ℕ) (s : Sections) (h : IsCut house ws s) where
   unfolding table_of
   table_is =
       ext_get_or unknown (firsts (count_of ws) (node_of ws)) (table_in ws s)
-      (firsts-length (count_of ws) (node_of ws) ∙ count-is ∙ sym (table-count ws s))
+      (firsts-length (count_of ws) (node_of ws) ∙ count-is ∙ sym (table_count ws s))
       (λ k l.
       let below : k < count_of ws = omega (arith, firsts-length (count_of ws) (node_of ws)) in
       firsts_at (count_of ws) (node_of ws) unknown k below ∙ node-is k (omega (arith, count-is)))

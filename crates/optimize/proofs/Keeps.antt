@@ -6,20 +6,21 @@ use mathlib.Core.Bool.{true}
 use mathlib.Core.List.{List, []}
 use native.Mathlib.Omega.{arith}
 use lib.ListN.{length}
-use lib.Dec.{eqb}
+use lib.Dec.{eqb, lit<}
 use Rattle.rules.specs.Model.{Mode}
 use Rattle.rules.specs.Lists.{put}
 use Rattle.rules.specs.Refusal.{done}
 use Rattle.rules.specs.Check.{known_sort}
-use Rattle.rules.specs.Table.{Kind, Write, Node, kind_of, kind_code, with, is}
+use Rattle.rules.specs.Table.{row_width, Kind, Write, Node, kind_of, kind_code, with, is}
+use Rattle.rules.specs.Legal.{AllLegal}
 use Rattle.rules.specs.Room.{due, unpaid}
 use Rattle.rules.specs.Walk.{St, Mark, fresh, Held}
-use Rattle.rules.specs.Visit.{Ways}
 use Rattle.rules.specs.Fine.{fee}
 use Rattle.rules.proofs.Base.{If, no, put_all}
 use Rattle.rules.proofs.Shape.{points}
 use Rattle.rules.proofs.Went.{Visited}
 use Rattle.rules.proofs.Structure.{visit_went}
+use Rattle.rules.proofs.Walked.{Walked, went_walked}
 use Rattle.std.specs.Prelude.{Result, Ok, Err, OnOk}
 use Rattle.tables.specs.declared.refusal.Refusal.{Refusal}
 use Rattle.optimize.specs.declared.walk.Walk.{Walk}
@@ -33,8 +34,9 @@ use Rattle.optimize.specs.View.{node_of, Coded, row_of, RowKept, table_of, ways_
 use Rattle.optimize.specs.Folding.{Falls}
 use Rattle.optimize.specs.Process.{form_of, form_at, visit_of, Before}
 use Rattle.optimize.specs.Laid.{Laid, Room}
+use Rattle.optimize.specs.Bads.{Spare, SpareIn}
 use Rattle.optimize.specs.Call.{mode_is, ways_of}
-use Rattle.optimize.specs.Folder.{given_in, count_in, rows_in, seen, Keeps, LaidIn, RoomIn, FreshIn}
+use Rattle.optimize.specs.Folder.{given_in, count_in, rows_in, seen, Keeps, LaidIn, RoomIn, FreshIn, FreshAs}
 use Rattle.optimize.specs.Clauses.{PutsRow, Walks}
 use Rattle.optimize.proofs.Views.{split, firsts-length, row_below, coded-sort}
 use Rattle.optimize.proofs.Steps.{table-length}
@@ -44,7 +46,7 @@ use Rattle.optimize.proofs.Walks.{came-done, node_at_lem}
 -- ---- what a fresh node may spend
 unpaid-fresh : (w : ℕ → ℕ) (c : ℕ) (f : ℕ → Mark) (k : ℕ) → k < c → f k ≡ fresh → w k ≤ unpaid w c f
 unfolding unpaid
-unpaid-fresh w zero f k l e = let o : ⊥ = omega arith in absurd o
+unpaid-fresh w zero f k l e = absurd (omega arith)
 unpaid-fresh w (suc c) f k l e =
     split k c (λ h. omega (arith, unpaid-fresh w c f k h e))
     (λ h.
@@ -52,18 +54,15 @@ unpaid-fresh w (suc c) f k l e =
     let d : due (w c) (f c) ≡ w k = ap (λ z. due (w z) (f z)) q ∙ ap (due (w k)) e in
     omega arith)
 
-module _ (g dumps inputs replies : List ℕ) (mode : Mode) (reserve : ℕ) (R S : List ℕ) (w : Walk) (l : Laid g dumps inputs replies mode reserve R S w) where
+module _ (g dumps inputs replies : List ℕ) (mode : Mode) (reserve : ℕ) (R S : List ℕ) (w : Walk) (legal : AllLegal (table_of g)) (l : Laid g dumps inputs replies mode reserve R S w) where
   passed-small : w.passed ≤ w.looked
   unfolding view
   passed-small = l.fine.fair
 
-  pub roomy : (k : ℕ) → k < count_of g → mark_of (count_of g) S k ≡ fresh → Room g R S w k
+  pub roomy : (k : ℕ) → k < count_of g → mark_of (count_of g) S k ≡ fresh → Room g S w k
   roomy k h e =
       record {
         inside = h;
-        small = l.small;
-        whole = l.whole;
-        room = l.room;
         few = omega (arith, l.few, unpaid-fresh (λ i. 1) (count_of g) (mark_of (count_of g) S) k h e);
         asks = omega (arith, l.asks, unpaid-fresh (λ i. 3) (count_of g) (mark_of (count_of g) S) k h e);
         looks = omega (arith, l.looks);
@@ -73,7 +72,7 @@ module _ (g dumps inputs replies : List ℕ) (mode : Mode) (reserve : ℕ) (R S 
   pub falls : Falls (count_of g) w.made R
   unfolding view
   falls =
-      let p = points (table_of g) (rows_of (count_of g) w.made R) w.made (mark_of (count_of g) S) l.fine.shape l.legal in
+      let p = points (table_of g) (rows_of (count_of g) w.made R) w.made (mark_of (count_of g) S) l.fine.shape legal in
       record { memory = λ m b e i. p.memory m e (omega (arith, table-length g)) }
 
   pub row_kept : (k : ℕ) → k < count_of g → RowKept g R k
@@ -92,13 +91,8 @@ module _ (g dumps inputs replies : List ℕ) (mode : Mode) (reserve : ℕ) (R S 
   pub codes_known : (k : ℕ) → k < count_of g → Coded (word_of R k 0)
   codes_known k b =
       let sorted : known_sort (word_of g k 1) ≡ true =
-      ap (λ (nd : Node). known_sort nd.sort) (sym (node_at_lem g k b)) ∙ (l.legal k (omega (arith, table-length g))).known in
+      ap (λ (nd : Node). known_sort nd.sort) (sym (node_at_lem g k b)) ∙ (legal k (omega (arith, table-length g))).known in
       coded-sort (word_of R k 0) (word_of R k 1) (λ e. no (sym (ap known_sort (sym (row_kept k b).sort ∙ e)) ∙ sorted))
-
--- a row put leaves the room
-pub room_row : (g R Q S : List ℕ) (w : Walk) (k : ℕ) → length Q ≡ length R → Room g R S w k → Room g Q S w k
-room_row g R Q S w k p r =
-    record { inside = r.inside; small = r.small; whole = r.whole; room = omega (arith, r.room); few = r.few; asks = r.asks; looks = r.looks; passed = r.passed }
 
 -- a node of the form of two operands is no Write
 two-no-write : (pair : Pair) (K : Kind) (b : ℕ) → Form.Two pair ≡ form_of K b → eqb (kind_code K) 3 ≡ true → ⊥
@@ -106,53 +100,40 @@ unfolding form_of
 two-no-write pair K b e q =
     let d : K ≡ Write = Rattle.rules.proofs.Base.is-kind Write (record { kind = K; sort = 0; a = 0; b = 0; c = 0; name = 0 }) q in
     let z : Form.Two pair ≡ form_of Write b = e ∙ ap (λ J. form_of J b) d in
-    let o : ◌≡◌ {A = ℕ} 0 1 = cc in
-    omega arith
+    cc
 
--- ---- from one call to the next
-module _ (g dumps inputs replies : List ℕ) (mode : Mode) (reserve : ℕ) (R S Q T : List ℕ) (w w' : Walk) (f k a : ℕ) (h' : List Held) (l : Laid g dumps inputs replies mode reserve R S w) (i : k < count_of g)
-    (e : visit_of g (ways_in dumps mode replies) f (view l.held g inputs replies R S w) k ≡ done (view h' g inputs replies Q T w', a)) where
-  abbrev ways : Ways
-  ways = ways_in dumps mode replies
-
-  came : Visited (table_of g) ways inputs replies k (view l.held g inputs replies R S w) (view h' g inputs replies Q T w', a)
-  came =
-      subst (If (Visited (table_of g) ways inputs replies k (view l.held g inputs replies R S w))) e
-      (visit_went (table_of g) ways inputs replies l.legal f (view l.held g inputs replies R S w) k (omega (arith, table-length g)) l.fine)
-
-  pub still : (j : ℕ) → k < j → mark_of (count_of g) T j ≡ mark_of (count_of g) S j
+-- ---- from one state of the buffers to a later one, with a questions more than the marked nodes paid
+module _ (g dumps inputs replies : List ℕ) (mode : Mode) (R S Q T : List ℕ) (w w' : Walk) (h h' : List Held) (legal : AllLegal (table_of g)) (a : ℕ)
+    (v : Walked (table_of g) (ways_in dumps mode replies) inputs replies legal a (view h g inputs replies R S w) (view h' g inputs replies Q T w')) where
+  few_on : w'.made + unpaid (λ k. 1) (count_of g) (mark_of (count_of g) T) ≤ w.made + unpaid (λ k. 1) (count_of g) (mark_of (count_of g) S)
   unfolding view
-  still j b = came.went.above j (omega arith)
+  few_on = rw (table-length g) at v.few
 
-  made_kept : w'.made + unpaid (λ k. 1) (count_of g) (mark_of (count_of g) T) ≤ w.made + unpaid (λ k. 1) (count_of g) (mark_of (count_of g) S)
+  asks_on : w'.asked + unpaid (λ k. 3) (count_of g) (mark_of (count_of g) T) ≤ w.asked + unpaid (λ k. 3) (count_of g) (mark_of (count_of g) S) + a
   unfolding view
-  made_kept = rw (table-length g) at came.went.few
-
-  pub asked-kept : w'.asked + unpaid (λ k. 3) (count_of g) (mark_of (count_of g) T) ≤ w.asked + unpaid (λ k. 3) (count_of g) (mark_of (count_of g) S)
-  unfolding view
-  asked-kept =
-      let s = rw (table-length g) at came.went.asks in
+  asks_on =
+      let s = rw (table-length g) at v.asks in
       omega (arith, s, firsts-length w.asked (question_of (count_of g) S), firsts-length w'.asked (question_of (count_of g) T))
 
-  looked-kept : w'.looked + unpaid (fee (table_of g)) (count_of g) (mark_of (count_of g) T) ≤ w.looked + unpaid (fee (table_of g)) (count_of g) (mark_of (count_of g) S)
+  looks_on : w'.looked + unpaid (fee (table_of g)) (count_of g) (mark_of (count_of g) T) ≤ w.looked + unpaid (fee (table_of g)) (count_of g) (mark_of (count_of g) S)
   unfolding view
-  looked-kept =
-      let s = came.went.looks in
+  looks_on =
+      let s = v.looks in
       let q : (m : ℕ → Mark) → unpaid (fee (table_of g)) (length (table_of g)) m ≡ unpaid (fee (table_of g)) (count_of g) m = λ m. ap (λ n. unpaid (fee (table_of g)) n m) (table-length g) in
       omega (arith, s, q (mark_of (count_of g) T), q (mark_of (count_of g) S))
 
-  pub laid_on : length Q ≡ length R → length T ≡ length S → Laid g dumps inputs replies mode reserve Q T w'
-  laid_on p q =
+  pub spare_on : (reserve c : ℕ) → length T ≡ length S → Spare reserve g S w (c + a) → Spare reserve g T w' c
+  spare_on reserve c q s = omega (arith, s, q, asks_on)
+
+  pub laid_on : (reserve : ℕ) → length T ≡ length S → Spare reserve g S w a
+      → Laid g dumps inputs replies mode reserve R S w → Laid g dumps inputs replies mode reserve Q T w'
+  laid_on reserve q s l =
       record {
-        legal = l.legal;
-        small = l.small;
-        whole = l.whole;
-        room = omega (arith, l.room);
         held = h';
-        fine = came.went.fine;
-        few = omega (arith, l.few, made_kept);
-        asks = omega (arith, l.asks, asked-kept);
-        looks = omega (arith, l.looks, looked-kept);
+        fine = v.fine;
+        few = omega (arith, l.few, few_on);
+        asks = omega (arith, s, q, asks_on);
+        looks = omega (arith, l.looks, looks_on);
       }
 
 -- ---- the folder from one visit to the next
@@ -160,21 +141,52 @@ module _ (g dumps inputs replies : List ℕ) (mode : Mode) (reserve : ℕ) (R S 
 abbrev pub seen_by : Call → List Held → ConstantFolder → St
 seen_by c h f' = view h c.given.now c.inputs.now c.replies.now f'.res.now f'.scratch.now f'.walk
 
-abbrev LaidBy : Call → ConstantFolder → Type 0
-LaidBy c f' = Laid c.given.now c.dumps.now c.inputs.now c.replies.now (mode_is c.mode) 0 f'.res.now f'.scratch.now f'.walk
+module _ (f f' : ConstantFolder) (e : Keeps f f') (l : LaidIn f) (a : ℕ) (h' : List Held)
+    (v : Walked (table_of (given_in f)) (ways_of f.call) f.call.inputs.now f.call.replies.now f.call.table.legal a (seen l.held f) (seen_by f.call h' f')) where
+  abbrev SpareBy : Call → ℕ → Type 0
+  SpareBy c d = Spare 0 c.given.now f'.scratch.now f'.walk d
+
+  abbrev LaidBy : Call → Type 0
+  LaidBy c = Laid c.given.now c.dumps.now c.inputs.now c.replies.now (mode_is c.mode) 0 f'.res.now f'.scratch.now f'.walk
+
+  pub spare_after : (c : ℕ) → SpareIn f (c + a) → SpareIn f' c
+  spare_after c s =
+      subst (λ d. SpareBy d c) (sym e.call)
+      (spare_on f.call.given.now f.call.dumps.now f.call.inputs.now f.call.replies.now (mode_is f.call.mode)
+      f.res.now f.scratch.now f'.res.now f'.scratch.now f.walk f'.walk l.held h' f.call.table.legal a v 0 c e.scratch_length s)
+
+  pub laid_after : SpareIn f a → LaidIn f'
+  laid_after s =
+      subst LaidBy (sym e.call)
+      (laid_on f.call.given.now f.call.dumps.now f.call.inputs.now f.call.replies.now (mode_is f.call.mode)
+      f.res.now f.scratch.now f'.res.now f'.scratch.now f.walk f'.walk l.held h' f.call.table.legal a v 0 e.scratch_length s l)
 
 module _ (f f' : ConstantFolder) (k a : ℕ) (e : Keeps f f') (l : LaidIn f) (i : k < count_in f) (v : Walks f f' (Ok a) (k + 1) (λ g ways vis σ. vis σ k)) where
   -- the rules' visit from the states that took an input before
-  pub visited : (h' : List Held) × (visit_of (given_in f) (ways_of f.call) (k + 1) (seen l.held f) k ≡ done (seen_by f.call h' f', a))
+  visited : (h' : List Held) × (visit_of (given_in f) (ways_of f.call) (k + 1) (seen l.held f) k ≡ done (seen_by f.call h' f', a))
   visited =
-      let m = v l.held (k + 1) (omega arith) in
+      let m = v.walked l.held (k + 1) (omega arith) in
       (m.held, came-done m ∙ ap (λ c. done (seen_by c m.held f', a)) e.call)
+
+  came : Visited (table_of (given_in f)) (ways_of f.call) f.call.inputs.now f.call.replies.now k (seen l.held f) (seen_by f.call visited.0 f', a)
+  came =
+      subst (If (Visited (table_of (given_in f)) (ways_of f.call) f.call.inputs.now f.call.replies.now k (seen l.held f))) visited.1
+      (visit_went (table_of (given_in f)) (ways_of f.call) f.call.inputs.now f.call.replies.now f.call.table.legal (k + 1) (seen l.held f) k (omega (arith, table-length (given_in f))) l.fine)
+
+  walked : Walked (table_of (given_in f)) (ways_of f.call) f.call.inputs.now f.call.replies.now f.call.table.legal 0 (seen l.held f) (seen_by f.call visited.0 f')
+  walked = went_walked (table_of (given_in f)) (ways_of f.call) f.call.inputs.now f.call.replies.now f.call.table.legal (suc k) 0 (seen l.held f) (seen_by f.call visited.0 f') came.went
+
+  -- room for more questions stays
+  pub spare-visited : (c : ℕ) → SpareIn f c → SpareIn f' c
+  spare-visited c s = spare_after f f' e l 0 visited.0 walked c (omega (arith, s))
 
   -- a visit that is done leaves the folder laid, and the marks after its node as they were
   pub laid-after : LaidIn f'
-  laid-after =
-      subst (λ c. LaidBy c f') (sym e.call)
-      (laid_on f.call.given.now f.call.dumps.now f.call.inputs.now f.call.replies.now (mode_is f.call.mode) 0 f.res.now f.scratch.now f'.res.now f'.scratch.now f.walk f'.walk (k + 1) k a visited.0 l i visited.1 e.res_length e.scratch_length)
+  laid-after = laid_after f f' e l 0 visited.0 walked (omega (arith, l.asks))
+
+  still : (j : ℕ) → k < j → mark_of (count_in f) f'.scratch.now j ≡ mark_of (count_in f) f.scratch.now j
+  unfolding view
+  still j b = came.went.above j (omega arith)
 
   pub ready-after : (n : ℕ) → k < n → FreshIn f n → FreshIn f' n
   ready-after n b r =
@@ -183,24 +195,19 @@ module _ (f f' : ConstantFolder) (k a : ℕ) (e : Keeps f f') (l : LaidIn f) (i 
         laid = laid-after;
         inside = omega (arith, same, r.inside);
         fresh = ap (λ c. mark_of c f'.scratch.now n) same
-            ∙ still f.call.given.now f.call.dumps.now f.call.inputs.now f.call.replies.now (mode_is f.call.mode) 0 f.res.now f.scratch.now f'.res.now f'.scratch.now f.walk f'.walk (k + 1) k a visited.0 l i visited.1 n b
-            ∙ r.fresh;
+            ∙ still n b ∙ r.fresh;
       }
 
 -- ---- at a node still to be visited
 module _ (f : ConstantFolder) (n : ℕ) (r : FreshIn f n) where
   pub ready-room : RoomIn f n
-  ready-room = roomy (given_in f) f.call.dumps.now f.call.inputs.now f.call.replies.now (mode_is f.call.mode) 0 f.res.now f.scratch.now f.walk r.laid n r.inside r.fresh
+  ready-room = roomy (given_in f) f.call.dumps.now f.call.inputs.now f.call.replies.now (mode_is f.call.mode) 0 f.res.now f.scratch.now f.walk f.call.table.legal r.laid n r.inside r.fresh
 
   pub ready-falls : Falls (count_in f) f.walk.made f.res.now
-  ready-falls = falls (given_in f) f.call.dumps.now f.call.inputs.now f.call.replies.now (mode_is f.call.mode) 0 f.res.now f.scratch.now f.walk r.laid
+  ready-falls = falls (given_in f) f.call.dumps.now f.call.inputs.now f.call.replies.now (mode_is f.call.mode) 0 f.res.now f.scratch.now f.walk f.call.table.legal r.laid
 
   pub ready-kept : RowKept (given_in f) f.res.now n
-  ready-kept = row_kept (given_in f) f.call.dumps.now f.call.inputs.now f.call.replies.now (mode_is f.call.mode) 0 f.res.now f.scratch.now f.walk r.laid n r.inside
-
-  -- its operands stand before it
-  pub ready-before : (F : Form) → F ≡ form_at (given_in f) n → Before F (given_in f) n
-  ready-before F e = before-is (given_in f) n r.laid.legal r.inside F e
+  ready-kept = row_kept (given_in f) f.call.dumps.now f.call.inputs.now f.call.replies.now (mode_is f.call.mode) 0 f.res.now f.scratch.now f.walk f.call.table.legal r.laid n r.inside
 
 -- the row of a node of two operands put: the Writes are as they were
 pub row-falls : (f f' : ConstantFolder) → Keeps f f' → (pair : Pair) (n x y c : ℕ) → Form.Two pair ≡ form_at (given_in f) n → PutsRow f f' n x y c
@@ -217,9 +224,37 @@ row-falls f f' e pair n x y c form p falls =
       memory = λ m b. subst (λ (r : ℕ → Node). is Write (r m) ≡ true → (r m).a < count_in f' → (r m).a < m) (sym same) (λ q l. all m (omega (arith, b, count)) q (omega (arith, l, count)));
     }
 
--- the operands of the same call
-pub before-on : (f f' : ConstantFolder) → Keeps f f' → (n k : ℕ) → word_of (given_in f) n k < n → word_of (given_in f') n k < n
-before-on f f' e n k b = subst (λ (c : Call). word_of c.given.now n k < n) (sym e.call) b
+-- its operands stand before it
+pub operands-before : {f : ConstantFolder} {n : ℕ} {F : Form} → FreshAs f n F → Before F (given_in f) n
+operands-before {f} {n} {F} a = before-is (given_in f) n f.call.table.legal a.ready.inside F a.form
+
+-- what the visit of its first operand asks
+abbrev First : Form → List ℕ → ℕ → Type 0
+First Form.Constant g n = Unit
+First Form.Given g n = Unit
+First Form.Free g n = Unit
+First (Form.One rule) g n = word_of g n 2 < n
+First (Form.Two pair) g n = word_of g n 2 < n
+First Form.Three g n = word_of g n 2 < n
+First Form.Choice g n = word_of g n 2 < n
+First Form.Step g n = word_of g n 2 < n
+
+first-before : (F : Form) (g : List ℕ) (n : ℕ) → Before F g n → First F g n
+first-before Form.Constant g n b = tt
+first-before Form.Given g n b = tt
+first-before Form.Free g n b = tt
+first-before (Form.One rule) g n b = b
+first-before (Form.Two pair) g n b = b.0
+first-before Form.Three g n b = b.0
+first-before Form.Choice g n b = b.0
+first-before Form.Step g n b = b.0
+
+pub first-operand : {f : ConstantFolder} {n : ℕ} {F : Form} → FreshAs f n F → FreshIn f n × ((2 < row_width) × First F (given_in f) n)
+first-operand {f} {n} {F} a = (a.ready, (lit< tt, first-before F (given_in f) n (operands-before a)))
+
+-- the same of a folder of the same call
+pub before-on : {f f' : ConstantFolder} {n : ℕ} (k : ℕ) → Keeps f f' → word_of (given_in f) n k < n → word_of (given_in f') n k < n
+before-on {f} {f'} {n} k e b = subst (λ (c : Call). word_of c.given.now n k < n) (sym e.call) b
 
 -- what an answer leaves where it is one
 pub on-ok : (r : Result ℕ Refusal) (P : Type 0) → ((a : ℕ) → r ≡ Ok a → P) → OnOk r P

@@ -19,17 +19,8 @@ use Rattle.std.specs.Prelude.{Ok, Err}
 use Rattle.optimize.specs.Bounds.{count_of}
 use Rattle.optimize.specs.View.{firsts, question_of, view, outcome_of}
 use Rattle.optimize.specs.Folder.{seen}
-use denote.Enum.Declared.{tag_of}
-use Rattle.optimize.specs.contracts.last_question.Verdict.{the_type}
 use Rattle.optimize.specs.declared.last_question.Verdict.{Verdict}
 use Rattle.optimize.specs.LastQuestion.{verdict_is, answered_of, verdict_of, verdict_then, unnamed, without_bads, forgotten}
-
--- ---- a verdict is the number that the tally has for it
-pub verdict-number : (v : Verdict) → tag_of the_type v ≡ verdict_is v
-verdict-number Verdict.Unasked = refl
-verdict-number Verdict.Found = refl
-verdict-number Verdict.NotFound = refl
-verdict-number Verdict.NoneLeft = refl
 
 -- ---- nothing is forgotten of a state that lies in the buffers
 map_more : (xs : List Question) (q : Question) → map unnamed (xs ++ (q ∷ [])) ≡ map unnamed xs ++ (unnamed q ∷ [])
@@ -67,18 +58,18 @@ module _ (m : Model) (how : Mode) (σ : St) where
   none_left : (l : List ℕ) → length l ≡ 0 → last_question m how σ l ≡ done (σ, 3)
   unfolding last_question
   none_left [] e = refl
-  none_left (b ∷ l) e = let o : ⊥ = omega arith in absurd o
+  none_left (b ∷ l) e = absurd (omega arith)
 
   one_left : (l : List ℕ) → length l ≡ 1 → last_question m how σ l ≡ verdict_then (ask (length m.replies) σ 2 (get_or l 0 0) 0 [])
   unfolding last_question
-  one_left [] e = let o : ⊥ = omega arith in absurd o
+  one_left [] e = absurd (omega arith)
   one_left (b ∷ []) e = refl
-  one_left (b ∷ c ∷ l) e = let o : ⊥ = omega arith in absurd o
+  one_left (b ∷ c ∷ l) e = absurd (omega arith)
 
   many_left : (l : List ℕ) → 2 ≤ length l → last_question m how σ l ≡ verdict_then (ask (length m.replies) σ 5 (length l) 0 l)
   unfolding last_question
-  many_left [] e = let o : ⊥ = omega arith in absurd o
-  many_left (b ∷ []) e = let o : ⊥ = omega arith in absurd o
+  many_left [] e = absurd (omega arith)
+  many_left (b ∷ []) e = absurd (omega arith)
   many_left (b ∷ c ∷ l) e = refl
 
 -- ---- what the question left is as it stands

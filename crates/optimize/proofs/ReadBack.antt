@@ -87,7 +87,7 @@ pair_last n mark r i m e =
 
 pair_at : (n : ℕ) (mark : ℕ → Mark) (i : ℕ) → i < pair_count n mark → Pair n mark (pairs n mark) i
 unfolding sum
-pair_at zero mark i l = let o : ⊥ = omega arith in absurd o
+pair_at zero mark i l = absurd (omega arith)
 pair_at (suc n) mark i l =
     subst (λ ws. Pair (suc n) mark ws i) (sym (marks_snoc n mark))
     (inside-or-past (Pair (suc n) mark (pairs n mark ++ mark_words n (mark n)) i) i (pair_count n mark)
@@ -95,8 +95,8 @@ pair_at (suc n) mark i l =
     (λ h. last l h (mark n) refl))
   where
     last : i < is_replaced (mark n) + pair_count n mark → pair_count n mark ≤ i → (m : Mark) → mark n ≡ m → Pair (suc n) mark (pairs n mark ++ mark_words n (mark n)) i
-    last l h fresh e = let z = ap is_replaced e in let o : ⊥ = omega (arith, z) in absurd o
-    last l h kept e = let z = ap is_replaced e in let o : ⊥ = omega (arith, z) in absurd o
+    last l h fresh e = let z = ap is_replaced e in absurd (omega (arith, z))
+    last l h kept e = let z = ap is_replaced e in absurd (omega (arith, z))
     last l h (replaced r) e =
         let z = ap is_replaced e in
         subst (λ m. Pair (suc n) mark (pairs n mark ++ mark_words n m) i) (sym e) (pair_last n mark r i e (omega (arith, z)))

@@ -54,7 +54,7 @@ known x zero h = refl
 known x (suc zero) h = refl
 known x (suc (suc zero)) h = refl
 known x (suc (suc (suc zero))) h = refl
-known x (suc (suc (suc (suc v)))) h = let o : ⊥ = omega arith in absurd o
+known x (suc (suc (suc (suc v)))) h = absurd (omega arith)
 
 abbrev none_kept : Lists
 none_kept = record { sequentials = record { ref_ptr = (0, 0); now = [] }; initial = record { ref_ptr = (0, 0); now = [] }; later = record { ref_ptr = (0, 0); now = [] } }
@@ -88,8 +88,8 @@ sorts_can_fail = (
     row : (k : ℕ) → k < 2 → (node_of (words_with 11 11) k).sort ≡ (node_at byte_table k).sort
     row zero l = refl
     row (suc zero) l = refl
-    row (suc (suc k)) l = let o : ⊥ = omega arith in absurd o
+    row (suc (suc k)) l = absurd (omega arith)
 
     pair : (i : ℕ) → i < 1 → sort_in 2 (words_with 11 11) (get_or (replacements_on (words_with 11 11)) (2 + 2 * i) 0) ≡ (node_at byte_table (get_or (replacements_on (words_with 11 11)) (1 + 2 * i) 0)).sort
     pair zero l = refl
-    pair (suc i) l = let o : ⊥ = omega arith in absurd o
+    pair (suc i) l = absurd (omega arith)

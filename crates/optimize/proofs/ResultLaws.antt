@@ -155,11 +155,11 @@ module _ (h : List Held) (d g inputs replies R S : List ℕ) (w : Walk) (kept : 
       refl)))))))))
       ∙ nine _ _ _ _ _ _ _ _ _
 
-  -- what stands after the last section and zeros behind it
-  pub handed_back : (u v : ResultWords) (Q P asks : List ℕ) → u.at ≡ 0 → u.res.now ≡ R → asks ≡ entries_of S (2 * n) (4 * w.asked)
-      → Writes u v (front_words n w.made R ++ (pair_words n S ++ (kept_words kept ++ rest_words inputs asks w verdict)))
+  -- what stands after the last section and zeros behind it; k is the count as the code has it
+  pub handed_back : (k : ℕ) → k ≡ n → (u v : ResultWords) (Q P asks : List ℕ) → u.at ≡ 0 → u.res.now ≡ R → asks ≡ entries_of S (2 * k) (4 * w.asked)
+      → Writes u v (front_words k w.made R ++ (pair_words k S ++ (kept_words kept ++ rest_words inputs asks w verdict)))
       → Q ≡ v.res.now → (v.at ≤ length Q → P ≡ take v.at Q ++ replicate (length Q - v.at) 0) → Handed (flatten (result_words m folded)) (length R) P v.at
-  handed_back u v Q P asks z b q e i c =
+  handed_back k p u v Q P asks z b q e i c =
       let s : length v.res.now ≡ length R = e.size ∙ ap length b in
-      let f : Wrote R v.res.now 0 v.at (front_words n w.made R ++ (pair_words n S ++ (kept_words kept ++ rest_words inputs (entries_of S (2 * n) (4 * w.asked)) w verdict))) = rw (q, z, b) at e.wrote in
+      let f : Wrote R v.res.now 0 v.at (front_words n w.made R ++ (pair_words n S ++ (kept_words kept ++ rest_words inputs (entries_of S (2 * n) (4 * w.asked)) w verdict))) = rw (q, z, b, p) at e.wrote in
       rw sections_are (handed R v.res.now P _ v.at s f (rw i at c (omega (arith, ap length i, e.wrote.fits))))

@@ -8,7 +8,7 @@ use mathlib.Core.List.{List}
 use lib.ListN.{get_or}
 use lib.Dec.{eqb}
 use borrow.Author.Tests.{eq-eqb, ne_eqb}
-use Rattle.rules.specs.Table.{Const, Write, Node, kind_of, kind_code, is}
+use Rattle.rules.specs.Table.{Write, Node, kind_of, is}
 use Rattle.rules.specs.Fold.{const_of}
 use Rattle.rules.proofs.Base.{inside-or-past}
 use Rattle.tables.proofs.NodeLaws.{is_code, names-kind, names-none, unknown-kind}
@@ -19,30 +19,13 @@ use Rattle.tables.specs.declared.node.UnknownKind.{UnknownKind}
 use Rattle.tables.specs.NodeAnswers.{coded_kind_of, kind_in, kind_is}
 use Rattle.rules.specs.Sections.{word_of}
 use Rattle.optimize.specs.Bounds.{constants_at}
-use Rattle.optimize.specs.View.{rows_of}
+use Rattle.optimize.specs.View.{node_of, rows_of}
 use Rattle.optimize.proofs.Views.{row_below, row_made, row-past}
-
--- ---- Consts, by the code of what stands there
-module _ (rows : ℕ → Node) (k code : ℕ) (kind : (rows k).kind ≡ kind_of code) where
-  const-code : is Const (rows k) ≡ eqb code 1
-  const-code = ap (λ K. eqb (kind_code K) 1) kind ∙ is_code 1 refl refl code
-
-  pub constant-here : code ≡ 1 → (x : ℕ) → x ≡ (rows k).a → some x ≡ const_of rows k
-  constant-here e x d = ap some d ∙ sym (ap (λ b. elim b [ true ↦ some (rows k).a | false ↦ none ]) (const-code ∙ eq-eqb code 1 e))
-
-  pub constant-not-here : (code ≡ 1 → ⊥) → none ≡ const_of rows k
-  constant-not-here e = sym (ap (λ b. elim b [ true ↦ some (rows k).a | false ↦ none ]) (const-code ∙ ne_eqb code 1 e))
 
 module _ (n made : ℕ) (R : List ℕ) (k : ℕ) where
   -- ---- Consts
-  row-kind : k < n → (rows_of n made R k).kind ≡ kind_of (word_of R k 0)
-  row-kind l = ap (λ (nd : Node). nd.kind) (row_below n made R k l)
-
-  pub constant-row : k < n → word_of R k 0 ≡ 1 → (x : ℕ) → x ≡ word_of R k 2 → some x ≡ const_of (rows_of n made R) k
-  constant-row l e x d = constant-here (rows_of n made R) k (word_of R k 0) (row-kind l) e x (d ∙ sym (ap (λ (nd : Node). nd.a) (row_below n made R k l)))
-
-  pub constant-no-row : k < n → (word_of R k 0 ≡ 1 → ⊥) → none ≡ const_of (rows_of n made R) k
-  constant-no-row l e = constant-not-here (rows_of n made R) k (word_of R k 0) (row-kind l) e
+  pub constant-row : k < n → const_of (node_of R) k ≡ const_of (rows_of n made R) k
+  constant-row l = ap (λ (nd : Node). const_of (λ _. nd) k) (sym (row_below n made R k l))
 
   pub constant-made : n ≤ k → k - n < 2 + made → some (get_or R (constants_at n + 2 * (k - n) + 1) 0) ≡ const_of (rows_of n made R) k
   constant-made l e = sym (ap (λ (nd : Node). const_of (λ _. nd) k) (row_made n made R k l e))

@@ -9,26 +9,34 @@ use Rattle.rules.specs.Refusal.{Out, refused, done, ◌>>=◌}
 use Rattle.rules.specs.Model.{Model, Mode}
 use Rattle.rules.specs.Walk.{St, start}
 use Rattle.rules.specs.Whole.{Bads, bads, Folded, last_question, ways_of, judge_sequentials, visit_all, fold_bads, fold}
-use Rattle.optimize.specs.LastQuestion.{bare_folded, forgotten}
+use Rattle.optimize.specs.LastQuestion.{forgotten}
+use Rattle.optimize.specs.Runs.{bared}
 
 -- ---- the rules' fold, outcome by outcome
 module _ (m : Model) (how : Mode) where
   module _ (σ : St) (seqs : List ℕ) where
+    -- what both lists leave
+    abbrev judged : Bads → Bads → Folded
+    judged i l = record { state = l.after; sequentials = seqs; initial = i.stay; later = l.stay; dropped = i.dropped ++ l.dropped; verdict = 0 }
+
+    abbrev judge_later : Bads → Out Folded
+    judge_later i = bads m how true how.terminate 4 i.after m.later >>= λ l. done (judged i l)
+
     pub first-refused : (z : rules.Refusal) → bads m how true how.terminate 3 σ m.initial ≡ refused z → fold_bads m how false σ seqs ≡ refused z
     unfolding fold_bads
-    first-refused z e = ap (λ (o : Out Bads). o >>= λ i. bads m how true how.terminate 4 i.after m.later >>= λ l. done (record { state = l.after; sequentials = seqs; initial = i.stay; later = l.stay; dropped = i.dropped ++ l.dropped; verdict = 0 })) e
+    first-refused z e = ap (λ (o : Out Bads). o >>= judge_later) e
 
     module _ (i : Bads) (e : bads m how true how.terminate 3 σ m.initial ≡ done i) where
-      then-later : fold_bads m how false σ seqs ≡ (bads m how true how.terminate 4 i.after m.later >>= λ l. done (record { state = l.after; sequentials = seqs; initial = i.stay; later = l.stay; dropped = i.dropped ++ l.dropped; verdict = 0 }))
+      then-later : fold_bads m how false σ seqs ≡ judge_later i
       unfolding fold_bads
-      then-later = ap (λ (o : Out Bads). o >>= λ i. bads m how true how.terminate 4 i.after m.later >>= λ l. done (record { state = l.after; sequentials = seqs; initial = i.stay; later = l.stay; dropped = i.dropped ++ l.dropped; verdict = 0 })) e
+      then-later = ap (λ (o : Out Bads). o >>= judge_later) e
 
       pub later-refused : (z : rules.Refusal) → bads m how true how.terminate 4 i.after m.later ≡ refused z → fold_bads m how false σ seqs ≡ refused z
-      later-refused z d = then-later ∙ ap (λ (o : Out Bads). o >>= λ l. done (record { state = l.after; sequentials = seqs; initial = i.stay; later = l.stay; dropped = i.dropped ++ l.dropped; verdict = 0 })) d
+      later-refused z d = then-later ∙ ap (λ (o : Out Bads). o >>= λ l. done (judged i l)) d
 
       pub both-judged : (l : Bads) → bads m how true how.terminate 4 i.after m.later ≡ done l
-          → fold_bads m how false σ seqs ≡ done (record { state = l.after; sequentials = seqs; initial = i.stay; later = l.stay; dropped = i.dropped ++ l.dropped; verdict = 0 })
-      both-judged l d = then-later ∙ ap (λ (o : Out Bads). o >>= λ l. done (record { state = l.after; sequentials = seqs; initial = i.stay; later = l.stay; dropped = i.dropped ++ l.dropped; verdict = 0 })) d
+          → fold_bads m how false σ seqs ≡ done (judged i l)
+      both-judged l d = then-later ∙ ap (λ (o : Out Bads). o >>= λ l. done (judged i l)) d
 
   module _ (σ₀ : St) (seqs : List ℕ) (e : judge_sequentials m.table (start m.table m.inputs m.replies) m.sequentials ≡ (σ₀, seqs)) where
     whole-fold : fold m how ≡ (visit_all m.table (ways_of m how) σ₀ seqs >>= λ σ. fold_bads m how how.one_query σ seqs)
@@ -43,27 +51,28 @@ module _ (m : Model) (how : Mode) where
 
 -- ---- the same under one-query, with the last question
 after-last : (o : Out (St × ℕ)) (seqs initial later dropped : List ℕ)
-    → ((o >>= λ p. done (record { state = p.0; sequentials = seqs; initial = initial; later = later; dropped = dropped; verdict = p.1 })) >>= λ f. done (bare_folded f))
+    → bared (o >>= λ p. done (record { state = p.0; sequentials = seqs; initial = initial; later = later; dropped = dropped; verdict = p.1 }))
     ≡ (forgotten o >>= λ p. done (record { state = p.0; sequentials = seqs; initial = initial; later = later; dropped = dropped; verdict = p.1 }))
 after-last (refused z) seqs initial later dropped = refl
 after-last (done p) seqs initial later dropped = refl
 
 module _ (m : Model) (how : Mode) (σ : St) (seqs : List ℕ) where
+  -- what the initial bads and the last question leave
+  abbrev judged_once : Bads → St × ℕ → Out Folded
+  judged_once i p = done (record { state = p.0; sequentials = seqs; initial = i.stay; later = m.later; dropped = i.dropped; verdict = p.1 })
+
   abbrev after_bads : Bads → Out Folded
-  after_bads i = last_question m how i.after i.stay >>= λ p. done (record { state = p.0; sequentials = seqs; initial = i.stay; later = m.later; dropped = i.dropped; verdict = p.1 })
+  after_bads i = last_question m how i.after i.stay >>= judged_once i
 
   once_is : fold_bads m how true σ seqs ≡ (bads m how false true 3 σ m.initial >>= after_bads)
   unfolding fold_bads
   once_is = refl
 
-  abbrev bared : Out Folded → Out Folded
-  bared o = o >>= λ f. done (bare_folded f)
-
   pub once-refused : (z : rules.Refusal) → bads m how false true 3 σ m.initial ≡ refused z → refused z ≡ bared (fold_bads m how true σ seqs)
   once-refused z e = sym (ap bared (once_is ∙ ap (λ (o : Out Bads). o >>= after_bads) e))
 
   pub once-last : (i : Bads) (o : Out (St × ℕ)) → bads m how false true 3 σ m.initial ≡ done i → o ≡ forgotten (last_question m how i.after i.stay)
-      → (o >>= λ p. done (record { state = p.0; sequentials = seqs; initial = i.stay; later = m.later; dropped = i.dropped; verdict = p.1 })) ≡ bared (fold_bads m how true σ seqs)
+      → (o >>= judged_once i) ≡ bared (fold_bads m how true σ seqs)
   once-last i o e d =
-      ap (λ (o : Out (St × ℕ)). o >>= λ p. done (record { state = p.0; sequentials = seqs; initial = i.stay; later = m.later; dropped = i.dropped; verdict = p.1 })) d
+      ap (λ (o : Out (St × ℕ)). o >>= judged_once i) d
       ∙ sym (ap bared (once_is ∙ ap (λ (o : Out Bads). o >>= after_bads) e) ∙ after-last (last_question m how i.after i.stay) seqs i.stay m.later i.dropped)

@@ -13,6 +13,7 @@ use Rattle.rules.specs.Walk.{Mark, fresh, start_rows, start}
 use Rattle.rules.proofs.Base.{inside-or-past}
 use Rattle.optimize.specs.Bounds.{count_of, constants_at, rows_end}
 use Rattle.optimize.specs.View.{node_of, firsts, table_of, rows_of, mark_of, view}
+use Rattle.optimize.specs.Lists.{Table}
 use Rattle.optimize.specs.ResultView.{KindsKnown, Ready, untouched}
 use Rattle.optimize.proofs.Views.{firsts_at, row_same, row-coded, row_below, row_made, row-past}
 use Rattle.optimize.proofs.Steps.{table-length}
@@ -114,9 +115,9 @@ module _ (g R ws : List ℕ) (known : KindsKnown g) (fits : rows_end (count_of g
       }
 
 -- A, B and C are what was copied and cleared
-pub set_up_left : (g R S A B C ws : List ℕ) (n : ℕ) → Ready g (length R) (length S) → n ≡ count_of g → A ≡ take (rows_end n) g → B ≡ 1 ∷ 0 ∷ 1 ∷ 1 ∷ [] → C ≡ replicate (length (take n S)) 0
+pub set_up_left : (g R S A B C ws : List ℕ) (n : ℕ) → Table g → Ready g (length R) (length S) → n ≡ count_of g → A ≡ take (rows_end n) g → B ≡ 1 ∷ 0 ∷ 1 ∷ 1 ∷ [] → C ≡ replicate (length (take n S)) 0
     → (inputs replies : List ℕ) → view [] g inputs replies (take (rows_end n + 1) (A ++ drop (rows_end n) R) ++ (B ++ ws)) (C ++ drop n S) untouched ≡ start (table_of g) inputs replies
-set_up_left g R S A B C ws n r e a b c inputs replies =
+set_up_left g R S A B C ws n t r e a b c inputs replies =
     let l : length (take (count_of g) S) ≡ count_of g = length-take-le (count_of g) S (omega arith) in
     rw (a, b, c, e)
-    (view-start g (take (rows_end (count_of g) + 1) (copied g R ws r.known r.whole (omega arith)) ++ ((1 ∷ 0 ∷ 1 ∷ 1 ∷ []) ++ ws)) (length (take (count_of g) S)) (drop (count_of g) S) inputs replies (stored g R ws r.known r.whole (omega arith)) (omega arith))
+    (view-start g (take (rows_end (count_of g) + 1) (copied g R ws r.known t.whole (omega arith)) ++ ((1 ∷ 0 ∷ 1 ∷ 1 ∷ []) ++ ws)) (length (take (count_of g) S)) (drop (count_of g) S) inputs replies (stored g R ws r.known t.whole (omega arith)) (omega arith))

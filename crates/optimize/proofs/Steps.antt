@@ -2,15 +2,14 @@
 -- Assumes nothing.
 use Prim.Native.Nat.{ℕ, ◌+◌, ◌-◌, ◌*◌, ◌<◌, ◌≤◌}
 use mathlib.Core.Path.{◌≡◌, refl}
-use mathlib.Core.Bool.{Bool, true, false}
+use mathlib.Core.Bool.{Bool, true, false, cond}
 use mathlib.Core.List.{List, []}
 use Rattle.std.specs.Prelude.{Ok, Err}
 use Rattle.std.proofs.Common.{add-zero}
 use Rattle.std.specs.Int.{from_bool}
-use native.Mathlib.Numerals.{add-one}
 use native.Mathlib.Omega.{arith}
-use lib.ListN.{length, get_or, drop, length-drop}
-use lib.Seq.{drop-cons}
+use lib.ListN.{length, drop, length-drop}
+use lib.Dec.{eqb}
 use borrow.Author.Tests.{le-leb, lt-leb}
 use Rattle.rules.specs.Refusal.{Out}
 use Rattle.rules.specs.Walk.{St, Held, kept, replaced, set_mark, add_const}
@@ -18,11 +17,8 @@ use Rattle.rules.specs.Questions.{ask, most, first_reply, other_replies}
 use Rattle.rules.specs.Visit.{Ways, settle}
 use Rattle.tables.specs.declared.refusal.Refusal.{Refusal}
 use Rattle.optimize.specs.declared.walk.Walk.{Walk}
+use Rattle.optimize.specs.declared.fold.Constant.{Constant}
 use Rattle.optimize.specs.declared.fold.Folded.{Folded}
-use denote.Enum.Declared.{tag_of}
-use Rattle.optimize.specs.declared.smt_solver.Question.{Question}
-use Rattle.optimize.specs.contracts.smt_solver.Question.{the_type}
-use Rattle.optimize.specs.Process.{question_is}
 use Rattle.optimize.specs.Bounds.{count_of}
 use Rattle.optimize.specs.View.{node_of, table_of, view, outcome_of, fold_is}
 use Rattle.optimize.proofs.Views.{four, four_below, four_0, four_1, four_2, four_3, firsts-length, marks-same, asked-more}
@@ -51,28 +47,22 @@ module _ (g : List ℕ) (ways : Ways) (k : ℕ) (f : Folded) (σ τ : St) where
   settled_shared m r true e i b c = rw (e, c, b, i)
   settled_shared m r false e i b c = rw (e, c, b, i, add-zero (count_of g))
 
-  pub settled_make : (υ : St) (m n s x : ℕ) → f ≡ Folded.Make s x → n ≡ count_of g → σ.made ≡ m → υ ≡ add_const σ (count_of g + 2 + m) s x
+  pub settled_make : (υ : St) (m n : ℕ) (c : Constant) → f ≡ Folded.Make c → n ≡ count_of g → σ.made ≡ m → υ ≡ add_const σ (count_of g + 2 + m) c.sort c.value
       → τ ≡ set_mark υ k (replaced (n + 2 + m)) → outcome_of τ (Ok (n + 2 + m)) ≡ settle (table_of g) ways k σ (fold_is (count_of g) f)
   unfolding outcome_of settle
-  settled_make υ m n s x e i d a c = rw (e, c, a, i, table-length g, d)
+  settled_make υ m n c e i d a p = rw (e, p, a, i, table-length g, d)
 
 -- ---- asking
 pub same-reply : (τ : St) (o : Out (St × ℕ)) (r r' : ℕ) → r ≡ r' → outcome_of τ (Ok r') ≡ o → outcome_of τ (Ok r) ≡ o
 same-reply τ o r r' e p = rw e p
 
-pub first_of : (u : ℕ) (l : List ℕ) → u < length l → get_or l u 0 ≡ first_reply (drop u l)
-first_of u l h = rw (drop-cons l u 0 h)
+-- the greatest reply that a question can have
+small-if : (b : Bool) → cond b 2 1 ≤ 2
+small-if true = omega arith
+small-if false = omega arith
 
-pub rest_of : (u : ℕ) (l : List ℕ) → u < length l → drop (u + 1) l ≡ other_replies (drop u l)
-rest_of u l h = rw (drop-cons l u 0 h, add-one u)
-
--- a question's number in the result is its place in the enum
-pub question-number : (q : Question) → tag_of the_type q + 1 ≡ question_is q
-question-number Question.AlwaysTrue = refl
-question-number Question.AlwaysFalse = refl
-question-number Question.Equal = refl
-question-number Question.Satisfiable = refl
-question-number Question.Several = refl
+pub most-small : (q : ℕ) → most q ≤ 2
+most-small q = small-if (eqb q 4)
 
 module _ (h : List Held) (g inputs replies R S : List ℕ) (w : Walk) (q x y r m : ℕ) (er : r ≡ first_reply (drop w.used replies)) (em : m ≡ most q) where
   pub ask-refused : (τ : St) → m < r → w.used < length replies → outcome_of τ (Err (Refusal.Reply w.used)) ≡ ask (length replies) (view h g inputs replies R S w) q x y []

@@ -17,7 +17,7 @@ use Rattle.optimize.proofs.Views.{sort-same, rows_pushed, rows-put, marks-put, a
 
 module _ (h : List Held) (g inputs replies R S : List ℕ) (w : Walk) where
   pub pushed : (n s x : ℕ) → n ≡ count_of g → constants_at n + 2 * (2 + w.made) + 1 < length R
-      → view h g inputs replies (set (set R (constants_at n + 2 * (2 + w.made)) s) (constants_at n + 2 * (2 + w.made) + 1) x) S (record { made = w.made + 1; taken = w.taken; used = w.used; asked = w.asked; looked = w.looked; passed = w.passed })
+      → view h g inputs replies (set (set R (constants_at n + 2 * (2 + w.made)) s) (constants_at n + 2 * (2 + w.made) + 1) x) S (record w { made = w.made + 1 })
       ≡ add_const (view h g inputs replies R S w) (count_of g + 2 + w.made) s x
   unfolding view
   pushed n s x i room =

@@ -50,7 +50,7 @@ firsts-length (suc c) f = length-append (firsts c f) (f c ∷ []) ∙ omega (ari
 
 pub firsts_at : {A : Type 0} (c : ℕ) (f : ℕ → A) (d : A) (i : ℕ) → i < c → get_or (firsts c f) i d ≡ f i
 unfolding firsts
-firsts_at zero f d i h = let o : ⊥ = omega arith in absurd o
+firsts_at zero f d i h = absurd (omega arith)
 firsts_at (suc c) f d i h =
     split i c
     (λ l. get_or-append (firsts c f) (f c ∷ []) d i (omega (arith, firsts-length c f)) ∙ firsts_at c f d i l)

@@ -25,7 +25,7 @@ use Rattle.optimize.specs.Clauses.{Walks, WalksAll}
 pub visited-top : (f f' : ConstantFolder) (k : ℕ) (r : Result ℕ Refusal) → Walks f f' r (k + 1) (λ g ways vis σ. vis σ k)
     → (h : List Held) → (h' : List Held) × (outcome_of (seen h' f') r ≡ visit_top (table_of (given_in f)) (ways_of f.call) (seen h f) k)
 visited-top f f' k r v h =
-    let m = v h (k + 1) (omega arith) in
+    let m = v.walked h (k + 1) (omega arith) in
     (m.held, m.came ∙ ap (λ n. visit (table_of (given_in f)) (ways_of f.call) n (seen h f) k) (add-one k))
 
 -- the rules' visits of a list, by a call

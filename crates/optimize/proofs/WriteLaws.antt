@@ -1,6 +1,7 @@
 -- Words written behind the words before a place: nothing, a run of stores, a section copied, and one after the other.
 --     wrote_none, wrote_stores, wrote_section, wrote_counts, wrote_then        what is written        writes_by, writes_then   and in which buffer
---     count_low, count-high, pair_none, pair_put             what a mark word below 2, and one from 2 on, adds
+--     marks-counted, pair_none, pair_put                     how many marks say that a node is replaced, and what a mark adds
+--     pair_turn, pair_end                                    a turn of the loop over the words of the marks, and its end
 --     writes_first, writes_more                              a run of words, one by one
 -- Assumes nothing.
 use Prim.Native.Nat.{ℕ, zero, suc, ◌+◌, ◌*◌, ◌<◌, ◌≤◌}
@@ -9,26 +10,28 @@ use mathlib.Core.List.{List, [], ◌∷◌, ◌++◌, append_assoc, append-nil}
 use native.Mathlib.Numerals.{add-one}
 use native.Mathlib.Nat.{zero-add}
 use native.Mathlib.Omega.{arith}
-use borrow.Author.Tests.{lt-ltb, ne_eqb}
-use lib.Dec.{eqb, leb}
-use mathlib.Core.Logic.{inl, inr}
-use Rattle.std.specs.List.{count_by}
-use Rattle.std.proofs.lemmas.Bool.Decides.{leb_tells}
-use Rattle.std.proofs.lemmas.List.Sums.{count_by_more_yes, count_by_more_no}
+use lib.Dec.{eqb}
+use mathlib.Core.Logic.{◌⊎◌, inl, inr}
+use Rattle.std.specs.List.{count_by, filter, zip}
+use Rattle.std.proofs.lemmas.Slice.Zip.{length-zip, get_or-zip}
+use Rattle.std.proofs.lemmas.List.{drop_more}
+use Rattle.std.proofs.lemmas.List.Sums.{count_by_more_yes, count_by_more_no, length-filter}
 use mathlib.Core.Bool.{Bool, true, false}
-use lib.ListN.{length, get_or, take, drop, set, length-append, length-set}
-use lib.Seq.{take-suc-set, take-add, take-set-le, drop-cons, drop-set-lt, get_or-set_same, take_all, take_at, length-take-le, sets, sets-eq, length-sets, paste, take-paste, length-paste}
+use lib.ListN.{length, get_or, take, drop, set, length-append, length-drop, length-set}
+use lib.Seq.{get_or-take, get_or-drop, take-suc-set, take-add, take-set-le, drop-cons, drop-set-lt, get_or-set_same, take_all, take_at, length-take-le, sets, sets-eq, length-sets, paste, take-paste, length-paste}
 use Rattle.rules.specs.Lists.{sum}
-use Rattle.rules.specs.Walk.{fresh, kept, replaced}
+use Rattle.rules.specs.Walk.{Mark, fresh, kept, replaced}
 use Rattle.rules.specs.Result.{gather, is_replaced, mark_words}
 use Rattle.rules.proofs.Flat.{gather_snoc}
 use Rattle.rules.specs.Table.{row_width}
 use Rattle.optimize.specs.Bounds.{constants_at, room_of, rows_end}
-use Rattle.optimize.specs.View.{mark_by, mark_of}
+use Rattle.optimize.specs.declared.mark.Mark.{Mark as Recorded}
+use Rattle.optimize.specs.View.{mark_by, mark_is, mark_of}
 use Rattle.optimize.specs.Lists.{entries_of}
-use Rattle.optimize.specs.ResultView.{Wrote}
+use Rattle.optimize.specs.ResultView.{Wrote, replaces}
 use Rattle.optimize.specs.Clauses.{Writes}
 use Rattle.optimize.specs.declared.result.ResultWords.{ResultWords}
+use Rattle.optimize.proofs.Views.{mark-below}
 
 pub wrote_none : (R : List ℕ) (at : ℕ) → at ≤ length R → Wrote R R at at []
 wrote_none R at h = record { front = sym (append-nil (take at R)); fits = h }
@@ -67,6 +70,12 @@ wrote_stores R at vs h =
       fits = omega (arith, length-sets R at vs);
     }
 
+pub section-size : (R Q : List ℕ) (at count : ℕ) (words : List ℕ) → at + 1 + length words ≤ length R
+    → Q ≡ paste (set R at count) (at + 1) words (length words) → length Q ≡ length R
+section-size R Q at count words l e =
+    let h : length words ≤ length words = omega arith in
+    omega (arith, ap length e, length-paste (set R at count) (at + 1) words (length words) (omega (arith, length-set R at count)) h, length-set R at count)
+
 pub wrote_section : (R Q : List ℕ) (at count : ℕ) (words : List ℕ) → at + 1 + length words ≤ length R
     → Q ≡ paste (set R at count) (at + 1) words (length words) → Wrote R Q at (at + 1 + length words) (count ∷ words)
 wrote_section R Q at count words l e =
@@ -77,14 +86,8 @@ wrote_section R Q at count words l e =
       front =
           ap (λ x. take (at + 1 + length words) x) e ∙ take-paste (set R at count) (at + 1) words (length words) n h
           ∙ ap₂ (λ x y. x ++ y) first (take_all (length words) words h) ∙ append_assoc (take at R) (count ∷ []) words;
-      fits = omega (arith, ap length e, length-paste (set R at count) (at + 1) words (length words) (omega (arith, length-set R at count)) h, length-set R at count);
+      fits = omega (arith, section-size R Q at count words l e);
     }
-
-pub section-size : (R Q : List ℕ) (at count : ℕ) (words : List ℕ) → at + 1 + length words ≤ length R
-    → Q ≡ paste (set R at count) (at + 1) words (length words) → length Q ≡ length R
-section-size R Q at count words l e =
-    let h : length words ≤ length words = omega arith in
-    omega (arith, ap length e, length-paste (set R at count) (at + 1) words (length words) (omega (arith, length-set R at count)) h, length-set R at count)
 
 -- two counts before words that stand in place: m of them, then p
 counts_front : (x v c m p : ℕ) (R : List ℕ) → m < length R
@@ -99,7 +102,7 @@ counts_front x v c m p R h =
 pub wrote_counts : (R : List ℕ) (n made : ℕ) → made ≤ n → room_of n ≤ length R
     → Wrote R (set (set R 0 n) (rows_end n) (2 + made)) 0 (constants_at n + 2 * (2 + made))
     ((n ∷ entries_of R 1 (row_width * n)) ++ ((2 + made) ∷ entries_of R (constants_at n) (2 * (2 + made))))
-wrote_counts [] n made h l = let o : ⊥ = omega arith in absurd o
+wrote_counts [] n made h l = absurd (omega arith)
 wrote_counts (x ∷ R) n made h l =
     let e₁ : rows_end n ≡ suc (row_width * n) = omega arith in
     let e₂ : constants_at n + 2 * (2 + made) ≡ suc (row_width * n + suc (2 * (2 + made))) = omega arith in
@@ -112,56 +115,81 @@ wrote_counts (x ∷ R) n made h l =
     }
 
 -- ---- marks
-module _ (n : ℕ) (S : List ℕ) (k : ℕ) (l : k < n) where
-  below_two : (m r : ℕ) → m < 2 → (is_replaced (mark_by m r) ≡ 0) × (mark_words k (mark_by m r) ≡ [])
-  below_two zero r h = (refl, refl)
-  below_two (suc zero) r h = (refl, refl)
-  below_two (suc (suc m)) r h = let o : ⊥ = omega arith in absurd o
+-- it counts as one, or it does not
+counts-or-not : (m : Mark) → ((eqb (is_replaced m) 1 ≡ true) × (is_replaced m ≡ 1)) ⊎ ((eqb (is_replaced m) 1 ≡ false) × (is_replaced m ≡ 0))
+counts-or-not fresh = inr (refl, refl)
+counts-or-not kept = inr (refl, refl)
+counts-or-not (replaced r) = inl (refl, refl)
 
-  from-two : (m r : ℕ) → 2 ≤ m → mark_by m r ≡ replaced r
-  from-two m r h =
-      ap (λ b. elim b [ true ↦ fresh | false ↦ elim (eqb m 1) [ true ↦ kept | false ↦ replaced r ] ]) (ne_eqb m 0 (λ e. omega arith))
-      ∙ ap (λ b. elim b [ true ↦ kept | false ↦ replaced r ]) (ne_eqb m 1 (λ e. omega arith))
+module _ (n : ℕ) (S : List ℕ) where
+  -- what a mark adds
+  pub pair_none : (k : ℕ) → k < n → (r : Recorded) → mark_is r ≡ mark_by (get_or S k 0) (get_or S (n + k) 0) → ((by : ℕ) → r ≡ Recorded.Replaced by → ⊥) → mark_words k (mark_of n S k) ≡ []
+  pair_none k l Recorded.Fresh e d = ap (mark_words k) (mark-below n S k l ∙ sym e)
+  pair_none k l Recorded.Kept e d = ap (mark_words k) (mark-below n S k l ∙ sym e)
+  pair_none k l (Recorded.Replaced by) e d = absurd (d by refl)
 
-  mark-below : mark_of n S k ≡ mark_by (get_or S k 0) (get_or S (n + k) 0)
-  unfolding mark_of
-  mark-below = rw (mark_of, lt-ltb k n l)
+  pub pair_put : (k : ℕ) → k < n → (by : ℕ) → replaced by ≡ mark_by (get_or S k 0) (get_or S (n + k) 0) → mark_words k (mark_of n S k) ≡ k ∷ by ∷ []
+  pair_put k l by e = ap (mark_words k) (mark-below n S k l ∙ sym e)
 
-  mark-low : get_or S k 0 < 2 → (is_replaced (mark_of n S k) ≡ 0) × (mark_words k (mark_of n S k) ≡ [])
-  mark-low h = rw mark-below (below_two (get_or S k 0) (get_or S (n + k) 0) h)
+  -- the replaced among the first c, counted over the words' pairs
+  abbrev pub pairs : List (ℕ × ℕ)
+  pairs = zip (take n S) (drop n S)
 
-  mark-high : 2 ≤ get_or S k 0 → mark_of n S k ≡ replaced (get_or S (n + k) 0)
-  mark-high h = mark-below ∙ from-two (get_or S k 0) (get_or S (n + k) 0) h
+  abbrev pub says : ℕ × ℕ → Bool
+  says p = replaces p.0 p.1
 
-  pub count_low : get_or S k 0 < 2 → sum (k + 1) (λ i. is_replaced (mark_of n S i)) ≡ sum k (λ i. is_replaced (mark_of n S i))
-  unfolding sum
-  count_low h = rw (add-one k) (omega (arith, (mark-low h).0))
+  -- the words x and y are of node k, and those of the nodes behind it follow
+  pub record Turn (k x y : ℕ) (xs ys : List ℕ) : Type 0 where
+    pub inside : k < n
+    pub mark : mark_by x y ≡ mark_by (get_or S k 0) (get_or S (n + k) 0)
+    pub marks : xs ≡ drop (k + 1) (take n S)
+    pub after : ys ≡ drop (k + 1) (drop n S)
 
-  pub count-high : 2 ≤ get_or S k 0 → sum (k + 1) (λ i. is_replaced (mark_of n S i)) ≡ sum k (λ i. is_replaced (mark_of n S i)) + 1
-  unfolding sum
-  count-high h = rw (add-one k) (omega (arith, ap is_replaced (mark-high h)))
+  module _ (room : n + n ≤ length S) where
+    pairs-length : length pairs ≡ n
+    pairs-length = omega (arith, length-zip (take n S) (drop n S), length-take-le n S (omega arith), length-drop n S)
 
-  pub pair_none : get_or S k 0 < 2 → mark_words k (mark_of n S k) ≡ []
-  pair_none h = (mark-low h).1
+    pair-at : (k : ℕ) → k < n → get_or pairs k (0, 0) ≡ (get_or S k 0, get_or S (n + k) 0)
+    pair-at k l =
+        get_or-zip (take n S) (drop n S) k (0, 0) (omega (arith, length-take-le n S (omega arith))) (omega (arith, length-drop n S))
+        ∙ ap₂ (λ x y. (x, y)) (get_or-take n S k 0 l) (get_or-drop n S k 0)
 
-  pub pair_put : 2 ≤ get_or S k 0 → mark_words k (mark_of n S k) ≡ k ∷ get_or S (n + k) 0 ∷ []
-  pair_put h = ap (mark_words k) (mark-high h)
+    -- a turn over the pairs, of which k are behind, and the end
+    pub pair_turn : (k x y : ℕ) (xs ys : List ℕ) → drop k (take n S) ≡ x ∷ xs → drop k (drop n S) ≡ y ∷ ys → Turn k x y xs ys
+    pair_turn k x y xs ys d e =
+        let h : k < length (take n S) = omega (arith, ap length d, length-drop k (take n S)) in
+        let l : k < length (drop n S) = omega (arith, ap length e, length-drop k (drop n S)) in
+        let a : get_or (take n S) k 0 ∷ drop (k + 1) (take n S) ≡ x ∷ xs = sym (drop_more (take n S) k 0 h) ∙ d in
+        let b : get_or (drop n S) k 0 ∷ drop (k + 1) (drop n S) ≡ y ∷ ys = sym (drop_more (drop n S) k 0 l) ∙ e in
+        let i : k < n = omega (arith, h, length-take-le n S (omega arith)) in
+        record {
+          inside = i;
+          mark = ap₂ mark_by (sym (ap (λ l. get_or l 0 0) a) ∙ get_or-take n S k 0 i) (sym (ap (λ l. get_or l 0 0) b) ∙ get_or-drop n S k 0);
+          marks = sym (ap (drop 1) a);
+          after = sym (ap (drop 1) b);
+        }
 
--- the marks from 2 on among the first c
-pub marks-counted : (n : ℕ) (S : List ℕ) (c : ℕ) → c ≤ n → n ≤ length S → count_by (λ x. leb 2 x) (take c S) ≡ sum c (λ k. is_replaced (mark_of n S k))
-unfolding sum
-marks-counted n S zero h l = refl
-marks-counted n S (suc c) h l =
-    let p : ℕ → Bool = λ x. leb 2 x in
-    let q : ℕ → ℕ = λ i. sum i (λ k. is_replaced (mark_of n S k)) in
-    let e : suc c ≡ c + 1 = sym (add-one c) in
-    let f = marks-counted n S c (omega arith) l in
-    ap (λ i. count_by p (take i S)) e
-    ∙ elim (leb_tells 2 (get_or S c 0)) [
-      | inl b ↦ count_by_more_yes p S c 0 (omega arith) b.0 ∙ ap (λ i. i + 1) f ∙ sym (count-high n S c (omega arith) b.1)
-      | inr b ↦ count_by_more_no p S c 0 (omega arith) b.0 ∙ f ∙ sym (count_low n S c (omega arith) b.1)
-    ]
-    ∙ ap q (sym e)
+    pub pair_end : (k : ℕ) (xs ys : List ℕ) → xs ≡ drop k (take n S) → ys ≡ drop k (drop n S) → (xs ≡ []) ⊎ (ys ≡ []) → n ≤ k
+    pair_end k xs ys d e (inl x) = omega (arith, ap length (sym d ∙ x), length-drop k (take n S), length-take-le n S (omega arith))
+    pair_end k xs ys d e (inr y) = omega (arith, ap length (sym e ∙ y), length-drop k (drop n S), length-drop n S)
+
+    counted-first : (c : ℕ) → c ≤ n → count_by says (take c pairs) ≡ sum c (λ k. is_replaced (mark_of n S k))
+    unfolding sum
+    counted-first zero h = refl
+    counted-first (suc c) h =
+        let q : ℕ → ℕ = λ i. sum i (λ k. is_replaced (mark_of n S k)) in
+        let e : suc c ≡ c + 1 = sym (add-one c) in
+        let f = counted-first c (omega arith) in
+        let m = mark-below n S c (omega arith) in
+        let at = ap says (pair-at c (omega arith)) in
+        ap (λ i. count_by says (take i pairs)) e
+        ∙ elim (counts-or-not (mark_by (get_or S c 0) (get_or S (n + c) 0))) [
+          | inl b ↦ count_by_more_yes says pairs c (0, 0) (omega (arith, pairs-length)) (at ∙ b.0) ∙ ap (λ i. i + 1) f ∙ omega (arith, ap is_replaced m, b.1)
+          | inr b ↦ count_by_more_no says pairs c (0, 0) (omega (arith, pairs-length)) (at ∙ b.0) ∙ f ∙ omega (arith, ap is_replaced m, b.1)
+        ]
+
+    pub marks-counted : length (filter says pairs) ≡ sum n (λ k. is_replaced (mark_of n S k))
+    marks-counted = length-filter says pairs ∙ ap (count_by says) (sym (take_all n pairs (omega (arith, pairs-length)))) ∙ counted-first n (omega arith)
 
 -- ---- runs of words
 pub writes_still : (u : ResultWords) → u.at ≤ length u.res.now → Writes u u []

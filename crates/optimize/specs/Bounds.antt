@@ -2,9 +2,9 @@
 -- a table shares the leaves, and only where a call is judged does its own limit stand.
 --     most_nodes, most_looked    the most nodes, and the most Writes that the Reads of so many can look at
 --     rows_end, constants_at     where the rows of n nodes end in words that start with them, and where the made constants start behind them
---     room_of                   the room of n nodes without lists        Counted, HasRoom, ..   the clauses of contracts
+--     room_of                   the room of n nodes without lists        HasWord   that a word of a row is there
 -- Assumes nothing.
-use Rattle.std.specs.Prelude.{ℕ, ◌+◌, ◌*◌, ◌<◌, ◌≤◌, List, length, get_or}
+use Rattle.std.specs.Prelude.{ℕ, ◌+◌, ◌*◌, ◌<◌, List, length, get_or}
 use Rattle.rules.specs.Table.{row_width}
 use Rattle.rules.specs.Limits.{node_room, least_room}
 
@@ -31,13 +31,6 @@ room_of n = node_room * n + least_room
 abbrev pub count_of : List ℕ → ℕ
 count_of g = get_or g 0 0
 
-abbrev pub Counted : List ℕ → Type 0
-Counted g = (0 < length g) × (count_of g ≤ most_nodes)
-
--- the result buffer has room for the rows, and for a constant made for each
-abbrev pub HasRoom : List ℕ → List ℕ → Type 0
-HasRoom g R = room_of (count_of g) ≤ length R
-
--- scratch has room for c more questions after so many
-abbrev pub HasAsks : List ℕ → List ℕ → ℕ → ℕ → Type 0
-HasAsks g S asked c = 2 * count_of g + 4 * (asked + c) ≤ length S
+-- word k of node's row stands in the words
+abbrev pub HasWord : List ℕ → ℕ → ℕ → Type 0
+HasWord words node k = 1 + row_width * node + k < length words

@@ -5,11 +5,11 @@
 --     Takes, Walks, WalksAll    what an input taken leaves, what a visit, and what the visits of a list
 --     RepliesBy, JudgesBad, RetainsBad, JudgesBads, AnswersLast    what judging a bad or a list of them leaves, and the last question
 --     JudgesNext, JudgesNexts    what judging a sequential and all of them leaves
---     SetsUp, Begins, Writes, HandsOver    the buffers before the walk and after it
+--     SetsUp, Writes, HandsOver    the buffers before the walk and after it      HasSpace   room for words of the result
 -- Assumes nothing.
-use Rattle.std.specs.Prelude.{ℕ, ◌+◌, ◌≤◌, ◌≡◌, Bool, length, take, ⊤, Result}
+use Rattle.std.specs.Prelude.{ℕ, ◌+◌, ◌≤◌, ◌≡◌, Bool, cond, length, take, ⊤, Result}
 use mathlib.Core.List.{List, [], ◌∷◌, flatten}
-use Rattle.rules.specs.Lent.{Lent, was, LentMut, old, ends}
+use Rattle.rules.specs.Lent.{LentMut, ends}
 use Rattle.rules.specs.Refusal.{Out}
 use Rattle.rules.specs.Table.{with}
 use Rattle.rules.specs.Model.{Model, Mode}
@@ -21,7 +21,6 @@ use Rattle.rules.specs.Whole.{judge_sequentials, visit_all}
 use Rattle.rules.specs.Result.{result_words}
 use Rattle.tables.specs.declared.refusal.Refusal.{Refusal}
 use Rattle.optimize.specs.declared.lists.Lists.{Lists}
-use Rattle.optimize.specs.declared.walk.Walk.{Walk}
 use Rattle.optimize.specs.declared.result.ResultWords.{ResultWords}
 use Rattle.optimize.specs.declared.call.Call.{Call}
 use Rattle.optimize.specs.declared.folder.ConstantFolder.{ConstantFolder}
@@ -38,7 +37,8 @@ use Rattle.optimize.specs.declared.last_question.Verdict.{Verdict}
 use Rattle.optimize.specs.Lists.{joined, walked_of}
 use Rattle.optimize.specs.Bads.{retained_of, judged_of, reply_rule, bad_rule, retain_rule, list_rule}
 use Rattle.optimize.specs.LastQuestion.{answered_of, verdict_is, forgotten}
-use Rattle.optimize.specs.ResultView.{untouched, folded_in, ModelOf, Wrote, Handed}
+use Rattle.optimize.specs.ResultView.{untouched, ModelOf, Wrote, Handed}
+use Rattle.optimize.specs.Runs.{folded_by}
 
 -- ---- one change of a buffer, in the state that lies in both: from the folder f to f'
 abbrev pub Pushes : ConstantFolder → ConstantFolder → ℕ → ℕ → Type 0
@@ -81,10 +81,8 @@ abbrev pub Takes : ConstantFolder → ConstantFolder → Result ℕ Refusal → 
 Takes f f' r node = (h : List Held) → Meets f' r (take_of (given_in f) (ways_of f.call) (seen h f) node)
 
 -- a visit: the rule's outcome, over the recursive visits at every fuel from `least` on
-abbrev pub Walks : ConstantFolder → ConstantFolder → Result ℕ Refusal → ℕ → (List ℕ → Ways → (St → ℕ → Out (St × ℕ)) → St → Out (St × ℕ)) → Type 0
-Walks f f' r least rule =
-    (h : List Held) (fuel : ℕ) → least ≤ fuel
-    → Meets f' r (rule (given_in f) (ways_of f.call) (visit_of (given_in f) (ways_of f.call) fuel) (seen h f))
+pub record Walks (f f' : ConstantFolder) (r : Result ℕ Refusal) (least : ℕ) (rule : List ℕ → Ways → (St → ℕ → Out (St × ℕ)) → St → Out (St × ℕ)) : Type 0 where
+  pub walked : (h : List Held) (fuel : ℕ) → least ≤ fuel → Meets f' r (rule (given_in f) (ways_of f.call) (visit_of (given_in f) (ways_of f.call) fuel) (seen h f))
 
 -- the visits of a list
 abbrev pub WalksAll : ConstantFolder → ConstantFolder → List ℕ → Result ⊤ Refusal → Type 0
@@ -110,25 +108,23 @@ AnswersLast f f' bads r =
     (h : List Held) (m : Model) (how : Mode) → length m.replies ≡ length f.call.replies.now
     → answered_of (seen h f') r ≡ forgotten (whole.last_question m how (seen h f) bads)
 
--- ---- the sequentials: one and those after it; all of them, those kept at the start of a list
-module _ (f f' : ConstantFolder) (list : LentMut) where
-  abbrev pub JudgesNext : ℕ → ℕ → ℕ → Type 0
-  JudgesNext count sequential r =
-      (h : List Held) (ss : List ℕ)
-      → joined (take count (old list)) (judge_sequentials (table_of (given_in f)) (seen h f) (sequential ∷ ss))
-      ≡ joined (take r (ends list)) (judge_sequentials (table_of (given_in f)) (seen h f') ss)
+-- ---- the sequentials: one and those after it, by whether it is kept; all of them, those kept at the start of a list
+abbrev pub JudgesNext : ConstantFolder → ConstantFolder → ℕ → Bool → Type 0
+JudgesNext f f' sequential r =
+    (h : List Held) (ss : List ℕ)
+    → judge_sequentials (table_of (given_in f)) (seen h f) (sequential ∷ ss) ≡ joined (cond r (sequential ∷ []) []) (judge_sequentials (table_of (given_in f)) (seen h f') ss)
 
-  abbrev pub JudgesNexts : List ℕ → ℕ → Type 0
-  JudgesNexts sequentials r = (h : List Held) → judge_sequentials (table_of (given_in f)) (seen h f) sequentials ≡ (seen h f', take r (ends list))
+abbrev pub JudgesNexts : ConstantFolder → ConstantFolder → LentMut → List ℕ → ℕ → Type 0
+JudgesNexts f f' list sequentials r = (h : List Held) → judge_sequentials (table_of (given_in f)) (seen h f) sequentials ≡ (seen h f', take r (ends list))
 
 -- ---- before the walk and after it
-abbrev pub SetsUp : Lent → LentMut → LentMut → Type 0
-SetsUp given result scratch = (inputs replies : List ℕ) → view [] (was given) inputs replies (ends result) (ends scratch) untouched ≡ start (table_of (was given)) inputs replies
+abbrev pub SetsUp : Call → LentMut → LentMut → Type 0
+SetsUp call result scratch =
+    (inputs replies : List ℕ) → view [] call.given.now inputs replies (ends result) (ends scratch) untouched ≡ start (table_of call.given.now) inputs replies
 
-abbrev pub Begins : Call → Lent → LentMut → LentMut → LentMut → ℕ → Type 0
-Begins c sequentials result scratch list r =
-    judge_sequentials (table_of c.given.now) (start (table_of c.given.now) c.inputs.now c.replies.now) (was sequentials)
-    ≡ (view [] c.given.now c.inputs.now c.replies.now (ends result) (ends scratch) untouched, take r (ends list))
+-- so many words fit from the place on
+abbrev pub HasSpace : ResultWords → ℕ → Type 0
+HasSpace w count = w.at + count ≤ length w.res.now
 
 -- words written into the same buffer from the place on, which then stands behind them
 pub record Writes (w w' : ResultWords) (ws : List ℕ) : Type 0 where
@@ -137,19 +133,8 @@ pub record Writes (w w' : ResultWords) (ws : List ℕ) : Type 0 where
   pub place : w'.at ≡ w.at + length ws
   pub wrote : Wrote w.res.now w'.res.now w.at w'.at ws
 
--- the result's words of the fold that lies in the buffers, with the lists kept
-abbrev pub WritesResult : Lent → LentMut → Lent → Walk → Lists → ℕ → ℕ → List ℕ → Type 0
-WritesResult given result scratch w kept verdict r inputs =
-    (h : List Held) (d replies : List ℕ) (m : Model) → ModelOf (was given) inputs replies m → w.used ≤ length replies
-    → Handed
-    (flatten (result_words m (folded_in h d (was given) inputs replies (old result) (was scratch) w kept.sequentials.now kept.initial.now kept.later.now verdict)))
-    (length (old result)) (ends result) r
-
-abbrev pub HandsOver : Call → LentMut → Lent → Walk → Lists → Verdict → ℕ → Type 0
-HandsOver c result scratch w kept verdict r =
-    (h : List Held) (d : List ℕ) (m : Model) → ModelOf c.given.now c.inputs.now c.replies.now m
-    → Handed
-    (flatten
-    (result_words m
-    (folded_in h d c.given.now c.inputs.now c.replies.now (old result) (was scratch) w kept.sequentials.now kept.initial.now kept.later.now (verdict_is verdict))))
-    (length (old result)) (ends result) r
+-- the result's words of the fold that lies in the folder, with the lists kept, and zeros after them
+abbrev pub HandsOver : ConstantFolder → Lists → Verdict → List ℕ → ℕ → Type 0
+HandsOver f kept verdict Q r =
+    (h : List Held) (d : List ℕ) (m : Model) → ModelOf (given_in f) f.call.inputs.now f.call.replies.now m
+    → Handed (flatten (result_words m (folded_by h d f kept.sequentials.now kept.initial.now kept.later.now (verdict_is verdict)))) (length f.res.now) Q r

@@ -1,6 +1,6 @@
 -- The rules' steps in the code's order, and what its answers are in the rules' terms.
---     choice_is            the branch that a condition chooses
---     question_is, reply_is    the numbers of a question and of a reply       solved_of   the outcome of a chain of questions
+--     question_is, first_is, second_is    the number of a question, and what it is of       reply_is    the number of a reply
+--     solved_of             the outcome of a chain of questions
 --     Form, form_of        what a node's visit does, by its kind             by_form   the rules' process by form
 --     one_of, two_of, ..    the visits of a node's operands, by any way to visit, then what comes after them
 -- Assumes nothing.
@@ -20,25 +20,33 @@ use Rattle.optimize.specs.declared.smt_solver.Question.{Question}
 use Rattle.optimize.specs.declared.reply.Reply.{Reply}
 use Rattle.optimize.specs.declared.form.Form.{Form}
 use Rattle.optimize.specs.declared.form.Pair.{Pair}
-use Rattle.optimize.specs.declared.form.Choice.{Choice}
 use Rattle.optimize.specs.Bounds.{count_of}
 use Rattle.rules.specs.Sections.{word_of}
 use Rattle.optimize.specs.View.{node_of, table_of, fold_is}
 use Rattle.optimize.specs.Folding.{operator_of, fold_two, fold_one, asks_bit}
 
--- the branch that a condition chooses
-abbrev pub choice_is : Choice → Branch
-choice_is Choice.Left = left
-choice_is Choice.Right = right
-choice_is Choice.Undecided = undecided
-
 -- ---- questions
 abbrev pub question_is : Question → ℕ
-question_is Question.AlwaysTrue = always_true
-question_is Question.AlwaysFalse = always_false
-question_is Question.Equal = equal
-question_is Question.Satisfiable = satisfiable
-question_is Question.Several = several
+question_is (Question.AlwaysTrue x) = always_true
+question_is (Question.AlwaysFalse x) = always_false
+question_is (Question.Equal x y) = equal
+question_is (Question.Satisfiable x) = satisfiable
+question_is (Question.Several x) = several
+
+-- the node that it is about, or how many bads, and the other node, or 0
+abbrev pub first_is : Question → ℕ
+first_is (Question.AlwaysTrue x) = x
+first_is (Question.AlwaysFalse x) = x
+first_is (Question.Equal x y) = x
+first_is (Question.Satisfiable x) = x
+first_is (Question.Several x) = x
+
+abbrev pub second_is : Question → ℕ
+second_is (Question.AlwaysTrue x) = 0
+second_is (Question.AlwaysFalse x) = 0
+second_is (Question.Equal x y) = y
+second_is (Question.Satisfiable x) = 0
+second_is (Question.Several x) = 0
 
 -- the number of a reply, and of one that a question took
 abbrev pub reply_is : Reply → ℕ

@@ -3,16 +3,16 @@
 --     Finished    what the walk leaves in the buffers         folded_in     the rules' fold that lies there
 --     Wrote       words put behind those before a place       Handed       the words handed back, and zeros after them
 -- Assumes nothing.
-use Rattle.std.specs.Prelude.{ℕ, ◌+◌, ◌-◌, ◌*◌, ◌<◌, ◌≤◌, ◌≡◌, List, [], ◌∷◌, ◌++◌, length, take, drop, replicate}
+use Rattle.std.specs.Prelude.{ℕ, Bool, eqb, ◌+◌, ◌-◌, ◌*◌, ◌<◌, ◌≤◌, ◌≡◌, List, [], ◌∷◌, ◌++◌, length, take, drop, replicate}
 use Rattle.rules.specs.Model.{Model}
 use Rattle.rules.specs.Walk.{Held}
 use Rattle.rules.specs.Whole.{Folded}
 use Rattle.rules.specs.Lists.{sum}
 use Rattle.rules.specs.Table.{row_width}
 use Rattle.rules.specs.Result.{is_replaced, mark_words, gather, listed}
-use Rattle.optimize.specs.Bounds.{count_of, constants_at, most_nodes, room_of, rows_end}
+use Rattle.optimize.specs.Bounds.{count_of, constants_at, most_nodes, room_of}
 use Rattle.rules.specs.Sections.{word_of}
-use Rattle.optimize.specs.View.{Coded, mark_of, view}
+use Rattle.optimize.specs.View.{Coded, mark_by, mark_of, view}
 use Rattle.optimize.specs.Lists.{entries_of}
 use Rattle.optimize.specs.declared.lists.Lists.{Lists}
 use Rattle.optimize.specs.declared.walk.Walk.{Walk}
@@ -22,12 +22,9 @@ use Rattle.optimize.specs.declared.walk.Walk.{Walk}
 abbrev pub KindsKnown : List ℕ → Type 0
 KindsKnown g = (v : ℕ) → v < count_of g → Coded (word_of g v 0)
 
--- a table of so many nodes is there, its kinds known; the result (of length r) has room for one without lists, scratch (of length s) for its marks
+-- the kinds of the table are known; the result (of length r) has room for one without lists, scratch (of length s) for its marks
 pub record Ready (g : List ℕ) (r s : ℕ) : Type 0 where
   pub known : KindsKnown g
-  pub counted : 0 < length g
-  pub few : count_of g ≤ most_nodes
-  pub whole : rows_end (count_of g) ≤ length g
   pub room : room_of (count_of g) ≤ r
   pub scratch : 2 * count_of g ≤ s
 
@@ -85,6 +82,10 @@ pub record Wrote (R Q : List ℕ) (at r : ℕ) (ws : List ℕ) : Type 0 where
 -- rows and constants, each after its count
 abbrev pub front_words : ℕ → ℕ → List ℕ → List ℕ
 front_words n made R = (n ∷ entries_of R 1 (row_width * n)) ++ ((2 + made) ∷ entries_of R (constants_at n) (2 * (2 + made)))
+
+-- whether the words of a mark say that another node stands for its own
+abbrev pub replaces : ℕ → ℕ → Bool
+replaces word by = eqb (is_replaced (mark_by word by)) 1
 
 -- replacements after their count
 abbrev pub pair_words : ℕ → List ℕ → List ℕ

@@ -3,8 +3,9 @@
 --     Underway     what judging the bads may rely on
 --     Runs        the rules' fold, as the answer and the result buffer have it
 -- Assumes nothing.
-use Rattle.std.specs.Prelude.{ℕ, ◌+◌, ◌*◌, ◌<◌, ◌≤◌, ◌≡◌, length, get_or, take, true, false, [], eqb, Result, Ok, Err}
+use Rattle.std.specs.Prelude.{ℕ, ◌+◌, ◌*◌, ◌<◌, ◌≤◌, ◌≡◌, length, get_or, true, false, [], eqb, Result, Ok, Err}
 use mathlib.Core.List.{List, flatten}
+use Rattle.std.specs.Borrow.{Bor}
 use Rattle.rules.specs.Refusal.{Out, refused, done, ◌>>=◌}
 use Rattle.rules.specs.Limits.{need, house}
 use Rattle.rules.specs.Model.{Model, Mode}
@@ -15,10 +16,10 @@ use Rattle.rules.specs.Sections.{word_of}
 use Rattle.rules.specs.Result.{result_words}
 use Rattle.tables.specs.declared.refusal.Refusal.{Refusal}
 use Rattle.tables.specs.Refusals.{refusal_of}
-use Rattle.optimize.specs.Bounds.{count_of, most_nodes, room_of, rows_end}
+use Rattle.optimize.specs.Bounds.{count_of}
 use Rattle.rules.specs.Lists.{All}
 use Rattle.optimize.specs.declared.folder.ConstantFolder.{ConstantFolder}
-use Rattle.optimize.specs.View.{Coded, table_of, view}
+use Rattle.optimize.specs.View.{Coded, table_of}
 use Rattle.optimize.specs.declared.call.Call.{Call}
 use Rattle.optimize.specs.declared.lists.Lists.{Lists}
 use Rattle.optimize.specs.declared.last_question.Verdict.{Verdict}
@@ -44,8 +45,6 @@ model_in g dumps sequentials initial later inputs replies =
 pub record Runnable (g dumps ss initial later ins reps : List ℕ) (r s : ℕ) : Type 0 where
   pub legal : WellFormed (model_in g dumps ss initial later ins reps)
   pub known : KindsKnown g
-  pub small : count_of g ≤ most_nodes
-  pub whole : rows_end (count_of g) ≤ length g
   pub bads : length initial + length later ≤ 2 * house.entries
   pub sequentials : length ss ≤ house.entries
   pub inputs : length ins ≤ house.inputs
@@ -56,11 +55,12 @@ abbrev pub RunnableOn : Call → Lists → ℕ → ℕ → Type 0
 RunnableOn c l r s = Runnable c.given.now c.dumps.now l.sequentials.now l.initial.now l.later.now c.inputs.now c.replies.now r s
 
 -- the sequentials are judged, and those that stay are listed; both buffers hold the start of the walk, and there is room for the bads that stay
-pub record Begun (c : Call) (l : Lists) (R S seqs : List ℕ) (room : ℕ) : Type 0 where
+pub record Begun (f : ConstantFolder) (l : Lists) (seqs : List ℕ) (room : ℕ) : Type 0 where
   pub scratch : ℕ
-  pub runnable : RunnableOn c l (length R) scratch
-  pub place : length S ≡ lists_at (count_of c.given.now) (length l.initial.now + length l.later.now)
-  pub judged : judge_sequentials (table_of c.given.now) (start (table_of c.given.now) c.inputs.now c.replies.now) l.sequentials.now ≡ (view [] c.given.now c.inputs.now c.replies.now R S untouched, seqs)
+  pub runnable : RunnableOn f.call l (length f.res.now) scratch
+  pub place : length f.scratch.now ≡ lists_at (count_in f) (length l.initial.now + length l.later.now)
+  pub counted : f.walk ≡ untouched
+  pub judged : judge_sequentials (table_of (given_in f)) (start (table_of (given_in f)) f.call.inputs.now f.call.replies.now) l.sequentials.now ≡ (seen [] f, seqs)
   pub fewer : length seqs ≤ length l.sequentials.now
   pub bads : length l.initial.now + length l.later.now ≤ room
 
@@ -71,14 +71,9 @@ pub record Underway (f : ConstantFolder) (initial later : List ℕ) : Type 0 whe
   pub second : All (BadEntry (table_of (given_in f))) later
   pub spare : SpareIn f (length initial + (length later + 1))
 
--- what the walk leaves where it is over
-pub record Over (f : ConstantFolder) : Type 0 where
-  pub counted : 0 < length (given_in f)
-  pub few : count_in f ≤ most_nodes
-  pub room : room_of (count_in f) ≤ length f.res.now
-  pub asks : 2 * count_in f + 4 * f.walk.asked ≤ length f.scratch.now
-  pub made : f.walk.made ≤ count_in f
-  pub known : (v : ℕ) → v < count_in f → Coded (word_of f.res.now v 0)
+-- what the walk leaves where it is over: each word for a kind names one
+abbrev pub Over : ConstantFolder → Type 0
+Over f = (v : ℕ) → v < count_in f → Coded (word_of f.res.now v 0)
 
 -- the model of a call, with the lists that are given; what lies in a folder with the lists that stay
 abbrev pub model_by : Call → List ℕ → List ℕ → List ℕ → Model
@@ -90,26 +85,38 @@ model_of c l = model_by c l.sequentials.now l.initial.now l.later.now
 abbrev pub folded_by : List Held → List ℕ → ConstantFolder → List ℕ → List ℕ → List ℕ → ℕ → Folded
 folded_by h d f ss initial later verdict = folded_in h d f.call.given.now f.call.inputs.now f.call.replies.now f.res.now f.scratch.now f.walk ss initial later verdict
 
--- the fold of the bads by how many of each list stay, and under one-query by how many initial ones stay and the verdict
-unfoldable pub bads_of : List Held → List ℕ → ConstantFolder → List ℕ → List ℕ → List ℕ → Result (ℕ × ℕ) Refusal → Out Folded
-bads_of h d f seqs initial later (Ok p) = done (folded_by h d f seqs (take p.0 initial) (take p.1 later) 0)
-bads_of h d f seqs initial later (Err r) = refused (refusal_of r)
+-- the fold of the bads by those of each list that stay, and under one-query by the initial ones that stay and the verdict
+unfoldable pub bads_of : List Held → List ℕ → ConstantFolder → List ℕ → Result (Bor (List ℕ) × Bor (List ℕ)) Refusal → Out Folded
+bads_of h d f seqs (Ok p) = done (folded_by h d f seqs p.0.now p.1.now 0)
+bads_of h d f seqs (Err r) = refused (refusal_of r)
 
-unfoldable pub once_of : List Held → List ℕ → ConstantFolder → List ℕ → List ℕ → List ℕ → Result (ℕ × Verdict) Refusal → Out Folded
-once_of h d f seqs initial later (Ok p) = done (folded_by h d f seqs (take p.0 initial) later (verdict_is p.1))
-once_of h d f seqs initial later (Err r) = refused (refusal_of r)
+unfoldable pub once_of : List Held → List ℕ → ConstantFolder → List ℕ → List ℕ → Result (Bor (List ℕ) × Verdict) Refusal → Out Folded
+once_of h d f seqs later (Ok p) = done (folded_by h d f seqs p.0.now later (verdict_is p.1))
+once_of h d f seqs later (Err r) = refused (refusal_of r)
+
+-- a fold without the bads of its questions, of which no result word speaks
+abbrev pub bared : Out Folded → Out Folded
+bared o = o >>= λ f. done (bare_folded f)
 
 module _ (f f' : ConstantFolder) (initial : List ℕ) where
-  abbrev pub FoldsBads : List ℕ → List ℕ → List ℕ → Result (ℕ × ℕ) Refusal → Type 0
-  FoldsBads later kept_initial kept_later r =
+  abbrev pub FoldsBads : List ℕ → Result (Bor (List ℕ) × Bor (List ℕ)) Refusal → Type 0
+  FoldsBads later r =
       (h : List Held) (ss seqs : List ℕ)
-      → (h' : List Held) × (d : List ℕ) × (bads_of h' d f' seqs kept_initial kept_later r ≡ fold_bads (model_by f.call ss initial later) (mode_is f.call.mode) false (seen h f) seqs)
+      → (h' : List Held) × (d : List ℕ) × (bads_of h' d f' seqs r ≡ fold_bads (model_by f.call ss initial later) (mode_is f.call.mode) false (seen h f) seqs)
 
-  -- but for the bads that question 5 is about, of which no result word speaks
-  abbrev pub FoldsOnce : List ℕ → Result (ℕ × Verdict) Refusal → Type 0
-  FoldsOnce kept r =
+  -- but for the bads that question 5 is about
+  abbrev pub FoldsOnce : Result (Bor (List ℕ) × Verdict) Refusal → Type 0
+  FoldsOnce r =
       (h : List Held) (ss seqs later : List ℕ)
-      → (h' : List Held) × (d : List ℕ) × (once_of h' d f' seqs kept later r ≡ (fold_bads (model_by f.call ss initial later) (mode_is f.call.mode) true (seen h f) seqs >>= λ o. done (bare_folded o)))
+      → (h' : List Held) × (d : List ℕ) × (once_of h' d f' seqs later r ≡ bared (fold_bads (model_by f.call ss initial later) (mode_is f.call.mode) true (seen h f) seqs))
+
+-- the whole fold by the lists that stay and the verdict, but for the bads that question 5 is about
+unfoldable pub folded_of : List Held → List ℕ → ConstantFolder → Result (Lists × Verdict) Refusal → Out Folded
+folded_of h d f (Ok p) = done (folded_by h d f p.0.sequentials.now p.0.initial.now p.0.later.now (verdict_is p.1))
+folded_of h d f (Err r) = refused (refusal_of r)
+
+abbrev pub Folds : ConstantFolder → ConstantFolder → Lists → Result (Lists × Verdict) Refusal → Type 0
+Folds f f' l r = (h : List Held) × (d : List ℕ) × (bared (folded_of h d f' r) ≡ bared (fold (model_of f.call l) (mode_is f.call.mode)))
 
 -- what the answer says of an outcome of the fold, and what stands in the result buffer Q of so much room
 unfoldable pub Ends : Model → Out Folded → ℕ → Result ℕ Refusal → List ℕ → Type 0

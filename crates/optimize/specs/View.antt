@@ -32,7 +32,7 @@ abbrev pub fold_is : ℕ → Folded → Fold
 fold_is n Folded.Stays = stays
 fold_is n (Folded.Swap r) = swap r
 fold_is n (Folded.Shared t) = shared n t
-fold_is n (Folded.Make s x) = make s x
+fold_is n (Folded.Make c) = make c.sort c.value
 
 -- ---- the given words
 abbrev pub node_of : List ℕ → ℕ → Node

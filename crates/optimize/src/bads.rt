@@ -1,12 +1,12 @@
 // Which bads are kept: should_retain_bad_state of optimize.rs over a list.
-ghost use Rattle.std.specs.Prelude.{ℕ, ◌+◌, ◌*◌, ◌<◌, ◌≤◌, ◌≡◌, length, IfOk, OnOk};
+ghost use Rattle.std.specs.Prelude.{ℕ, ◌+◌, ◌≤◌, ◌≡◌, length, IfOk, OnOk};
 ghost use Rattle.rules.specs.Lists.{All};
 ghost use Rattle.rules.specs.Legal.{BadEntry};
-ghost use Rattle.rules.specs.Table.{row_width};
 ghost use Rattle.rules.specs.Sections.{word_of};
 ghost use Rattle.rules.specs.Lent.{was, ends};
+ghost use Rattle.optimize.specs.Bounds.{HasWord};
 ghost use Rattle.optimize.specs.View.{table_of};
-ghost use Rattle.optimize.specs.Folder.{Keeps, AsksIn, HasRows, LaidIn, given_in};
+ghost use Rattle.optimize.specs.Folder.{Keeps, AsksIn, LaidIn, given_in};
 ghost use Rattle.optimize.specs.Bads.{SpareIn};
 ghost use Rattle.optimize.specs.Process.{reply_is};
 ghost use Rattle.optimize.specs.Clauses.{JudgesBad, JudgesBads, RepliesBy, RetainsBad};
@@ -46,8 +46,7 @@ fn by_reply(how: Judging, place: usize, reply: Reply) -> Result<bool, Refusal>
 impl ConstantFolder<'_> {
     // Whether a bad stays, by its rewritten condition; an open one is asked about.
     fn judge_bad(&mut self, how: Judging, place: usize, condition: usize) -> Result<bool, Refusal>
-        requires has_rows { HasRows self.old }
-        requires has_asks { AsksIn self.old 1 }
+        requires { AsksIn self.old 1 }
         ensures keeps { Keeps self.old self.new }
         ensures result_stays { self.new.res.now ≡ self.old.res.now }
         ensures judges_bad { JudgesBad self.old self.new how place condition result }
@@ -65,13 +64,13 @@ impl ConstantFolder<'_> {
         if !how.solver {
             return Ok(true);
         }
-        let reply = self.ask(Question::Satisfiable, condition, 0)?;
+        let reply = self.ask(Question::Satisfiable(condition))?;
         by_reply(how, place, reply)
     }
 
     // The condition of a bad, as it was rewritten.
     fn condition_of(&self, bad: usize) -> usize
-        requires { 1 + row_width * bad + 2 < length self.now.res.now }
+        requires { HasWord self.now.res.now bad 2 }
         ensures { result ≡ word_of self.now.res.now bad 2 }
     {
         let res = &*self.res;
@@ -93,7 +92,7 @@ impl ConstantFolder<'_> {
         ensures laid { OnOk result (LaidIn self.new) }
         ensures spare { OnOk result ((c : ℕ) → SpareIn self.old (c + 1) → SpareIn self.new c) }
     {
-        self.visit_entry(bad)?;
+        self.visit(bad)?;
         let condition = self.condition_of(bad);
         self.judge_bad(how, place, condition)
     }

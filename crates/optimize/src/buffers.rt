@@ -1,24 +1,19 @@
-// The words of a table and of the two lent buffers, word by word. Rows, constants, marks, replacements and questions are words here and no structs:
-// there is no heap, both buffers are lent, and their layout is fixed.
-ghost use Rattle.std.specs.Prelude.{◌+◌, ◌*◌, ◌<◌, ◌≡◌, length};
-ghost use Rattle.rules.specs.Table.{kind_of, row_width};
-ghost use Rattle.tables.specs.NodeAnswers.{kind_is};
-ghost use Rattle.optimize.specs.Bounds.{count_of};
+// The rows of a table, read word by word: of the table as given, and of the result buffer, which begins as one. Both are lent as words with the layout
+// of docs/FORMAT.md, and a row is no struct here: the walk reads one to three words of it, and writes its operands in place.
+ghost use Rattle.std.specs.Prelude.{◌≡◌};
+ghost use Rattle.rules.specs.Table.{kind_of};
 ghost use Rattle.rules.specs.Sections.{word_of};
+ghost use Rattle.rules.specs.Fold.{const_of};
+ghost use Rattle.tables.specs.NodeAnswers.{kind_is};
+ghost use Rattle.optimize.specs.Bounds.{HasWord};
+ghost use Rattle.optimize.specs.View.{constant_is, node_of};
 
 use tables::node::{NodeKind, Row};
 
-// How many nodes the table has.
-pub(crate) fn node_count(given: &[u64]) -> usize
-    requires { 0 < length given.now }
-    ensures { result ≡ count_of given.now }
-{
-    given[0] as usize
-}
-
-// Word `k` of a node, from 0.
+// Word `k` of a node, from 0. The function of tables that does so, `row_word`, asks for the row to be there, and what asks for something is not
+// visible outside its crate.
 pub(crate) fn word(table: &[u64], node: usize, k: usize) -> u64
-    requires { 1 + row_width * node + k < length table.now }
+    requires { HasWord table.now node k }
     ensures { result ≡ word_of table.now node k }
 {
     table[1 + Row::WIDTH * node + k]
@@ -26,7 +21,7 @@ pub(crate) fn word(table: &[u64], node: usize, k: usize) -> u64
 
 // Word `k` of a node as the number of a node.
 pub(crate) fn operand(table: &[u64], node: usize, k: usize) -> usize
-    requires { 1 + row_width * node + k < length table.now }
+    requires { HasWord table.now node k }
     ensures { result ≡ word_of table.now node k }
 {
     word(table, node, k) as usize
@@ -34,8 +29,16 @@ pub(crate) fn operand(table: &[u64], node: usize, k: usize) -> usize
 
 // A node's kind; a code that names none reads as Input.
 pub(crate) fn kind_at(given: &[u64], node: usize) -> NodeKind
-    requires { 1 + row_width * node < length given.now }
+    requires { HasWord given.now node 0 }
     ensures { kind_is result ≡ kind_of (word_of given.now node 0) }
 {
     NodeKind::try_from(word(given, node, Row::CODE)).unwrap_or(NodeKind::Input)
+}
+
+// The number of the constant that a row is, if it is one.
+pub(crate) fn row_constant(table: &[u64], node: usize) -> Option<u64>
+    requires { HasWord table.now node 2 }
+    ensures { constant_is result ≡ const_of (node_of table.now) node }
+{
+    (word(table, node, Row::CODE) == NodeKind::CONST).then(|| word(table, node, Row::A))
 }

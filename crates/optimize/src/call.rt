@@ -1,12 +1,14 @@
 // What a call fixes for all of its fold: the table, what it brings, and what its mode asks for.
-ghost use Rattle.std.specs.Prelude.{◌<◌, ◌≡◌};
+ghost use Rattle.std.specs.Prelude.{◌<◌, ◌≤◌, ◌≡◌};
 ghost use Rattle.rules.specs.Limits.{adds, mode_of};
-ghost use Rattle.optimize.specs.Call.{mode_is};
+ghost use Rattle.optimize.specs.Bounds.{count_of, most_nodes};
+ghost use Rattle.optimize.specs.Lists.{Table, Table-prop};
 
 use btor::reading::Reading;
 use tables::limits::NAME_MARKS;
 
-// A 1 for each name that begins with `memory-dump`; none has number 0. They are bytes, not bools: tables fills lent bytes with them.
+// A 1 for each name that begins with `memory-dump`; none has number 0. They are bytes, not bools, as those that `mark_memory_dumps` fills: it is a
+// public function of tables, whose signature and promise may not change.
 pub(crate) type Dumps = [u8; NAME_MARKS];
 
 // What a mode asks for, and whose operators and reads it folds by: the Rust's in every mode.
@@ -28,6 +30,8 @@ fn adds(mode: u64, part: u64) -> bool
 
 // What the number of a mode adds up.
 impl From<u64> for Mode {
+    ghost use Rattle.optimize.specs.Call.{mode_is};
+
     ghost from_gives = { λ number mode. mode_is mode ≡ mode_of number };
 
     fn from(mode: u64) -> Mode {
@@ -40,7 +44,7 @@ impl From<u64> for Mode {
     }
 }
 
-// The table and the sections after it, the inputs and replies that count, the marks of the names, and the mode.
+// A legal table and the sections after it, the inputs and replies that count, the marks of the names, and the mode.
 #[derive(Clone, Copy)]
 pub(crate) struct Call<'a> {
     pub(crate) given: &'a [u64],
@@ -48,4 +52,15 @@ pub(crate) struct Call<'a> {
     pub(crate) replies: &'a [u64],
     pub(crate) dumps: &'a Dumps,
     pub(crate) mode: Mode,
+    ghost table: { Table given.now } by { Table-prop given.now },
+}
+
+impl Call<'_> {
+    // How many nodes the table has.
+    pub(crate) fn node_count(self) -> usize
+        ensures value { result ≡ count_of self.entry.given.now }
+        ensures upper_bound { result ≤ most_nodes }
+    {
+        self.given[0] as usize
+    }
 }

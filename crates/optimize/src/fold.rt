@@ -12,13 +12,21 @@ use btor::node_type::NodeType;
 use btor::operators;
 use btor::reading::Reading;
 
-// A node stays, or another node, the shared false or true, or a new constant (sort, number) takes its place.
+// A constant: the code of its sort, and its number. Here and below a sort is the word that the row has and that the result gets back, and no NodeType: the
+// rules fold whatever number stands there.
+#[derive(Clone, Copy, Debug, PartialEq, Eq)]
+pub(crate) struct Constant {
+    pub(crate) sort: u64,
+    pub(crate) value: u64,
+}
+
+// A node stays, or another node, the shared false or true, or a new constant takes its place.
 #[derive(Clone, Copy, Debug, PartialEq, Eq)]
 pub(crate) enum Folded {
     Stays,
     Swap(usize),
     Shared(bool),
-    Make(u64, u64),
+    Make(Constant),
 }
 
 // What two words are folded by. It stays an enum: the form of a node, which holds it, is handed out, and a function may not be.
@@ -138,14 +146,14 @@ fn complement_in(sort: u64, value: u64) -> u64
 }
 
 // A constant of one bit becomes the shared one.
-pub(crate) fn fold_const(sort: u64, value: u64) -> Folded
-    ensures { (n : ℕ) → fold_is n result ≡ fold_const n sort value }
+pub(crate) fn fold_const(constant: Constant) -> Folded
+    ensures { (n : ℕ) → fold_is n result ≡ fold_const n constant.sort constant.value }
 {
-    if sort == NodeType::BIT {
-        if value == 0 {
+    if constant.sort == NodeType::BIT {
+        if constant.value == 0 {
             return Folded::Shared(false);
         }
-        if value == 1 {
+        if constant.value == 1 {
             return Folded::Shared(true);
         }
     }
@@ -176,7 +184,10 @@ fn fold_any_binary<F: Fn(u64, u64) -> u64>(
     requires { F.IsAlwaysCallable f }
     ensures { (n : ℕ) (g : ℕ → ℕ → ℕ) → ((x y z : ℕ) → F.post f x y z → z ≡ g x y) → fold_is n result ≡ fold_words sort g (constant_is left) (constant_is right) }
 {
-    fold_constants(left, right, |x, y| Folded::Make(sort, f(x, y)))
+    fold_constants(left, right, |x, y| {
+        let value = f(x, y);
+        Folded::Make(Constant { sort, value })
+    })
 }
 
 fn fold_ult(left: Option<u64>, right: Option<u64>) -> Folded
@@ -236,7 +247,8 @@ fn fold_or(sort: u64, x: usize, y: usize, left: Option<u64>, right: Option<u64>)
     fold_junction::<Or>(sort, x, y, left, right)
 }
 
-// A bit becomes the shared one; another constant keeps the Not's sort.
+// A bit becomes the shared one; another constant keeps the Not's sort. Here and below the sort is the node's own and the number its operand's: they are
+// no Constant.
 fn fold_not(sort: u64, value: Option<u64>) -> Folded
     ensures { (n : ℕ) → fold_is n result ≡ fold_not n sort (constant_is value) }
 {
@@ -251,7 +263,8 @@ fn fold_not(sort: u64, value: Option<u64>) -> Folded
             return Folded::Shared(false);
         }
     }
-    Folded::Make(sort, complement_in(sort, imm))
+    let value = complement_in(sort, imm);
+    Folded::Make(Constant { sort, value })
 }
 
 fn fold_ext(sort: u64, value: Option<u64>) -> Folded
@@ -260,7 +273,8 @@ fn fold_ext(sort: u64, value: Option<u64>) -> Folded
     let Some(imm) = value else {
         return Folded::Stays;
     };
-    Folded::Make(sort, operators::ext(imm))
+    let value = operators::ext(imm);
+    Folded::Make(Constant { sort, value })
 }
 
 // What a node of two operands x and y folds to; left and right are their numbers. The four are no struct: words and Ult fold by two of them,
@@ -301,10 +315,8 @@ pub(crate) fn asks_bit(rule: Rule, sort: u64) -> bool
     ensures { result ≡ asks_bit rule sort }
 {
     match rule {
-        Rule::Word(_) => false,
-        Rule::Ult => true,
-        Rule::Eq => true,
+        Rule::Ult | Rule::Eq => true,
         Rule::And => sort == NodeType::BIT,
-        Rule::Or => false,
+        Rule::Word(_) | Rule::Or => false,
     }
 }

@@ -1,37 +1,41 @@
 // The fold under way: its call, the two lent buffers and the counters, and what is read and put there.
-ghost use Rattle.std.specs.Prelude.{◌<◌, ◌≡◌};
+ghost use Rattle.std.specs.Prelude.{◌+◌, ◌*◌, ◌<◌, ◌≤◌, ◌≡◌, length};
 ghost use Rattle.rules.specs.Fold.{const_of};
+ghost use Rattle.optimize.specs.Bounds.{count_of, room_of};
 ghost use Rattle.optimize.specs.View.{constant_is};
-ghost use Rattle.optimize.specs.Folder.{Keeps, HasRows, FreshIn, RoomIn, count_in, rows_in};
-ghost use Rattle.optimize.specs.Clauses.{Pushes, PutsRow};
 
-use crate::buffers::{node_count, word};
+use crate::buffers::row_constant;
 use crate::call::Call;
+use crate::fold::Constant;
 use crate::walk::Walk;
-use tables::node::{NodeKind, Row};
+use tables::node::Row;
 
-// What the walk keeps (LaidIn, RoomIn) stands in the contracts and is no invariant of this type: a step breaks it between two of its writes.
+// Its ghost fields hold at every write. What else its methods ask or promise cannot stand here: Keeps, and that the result stays, are of two values;
+// LaidIn fails from a constant made or a question put until the mark of its node; FreshIn and FreshAs name the node, and its mark spends them; a node's bound
+// is a fact of the number; why AsksIn, RoomIn and FallsIn cannot, smt_solver.rt and settle.rt say.
 #[derive(Drop)]
 pub(crate) struct ConstantFolder<'a> {
     pub(crate) call: Call<'a>,
     pub(crate) res: &'a mut [u64],
     pub(crate) scratch: &'a mut [u64],
     pub(crate) walk: Walk,
+    ghost room: { room_of (count_of call.given.now) ≤ length res.now },
+    ghost asks: { 2 * count_of call.given.now + 4 * walk.asked ≤ length scratch.now },
+    ghost made: { walk.made ≤ count_of call.given.now },
 }
 
 impl ConstantFolder<'_> {
+    ghost use Rattle.optimize.specs.Folder.{Keeps, FreshIn, RoomIn, count_in, rows_in};
+    ghost use Rattle.optimize.specs.Clauses.{Pushes, PutsRow};
+
     // The number of the constant that stands at `at`, if one does.
     pub(crate) fn get_constant(&self, at: usize) -> Option<u64>
-        requires { HasRows self.now }
         ensures { constant_is result ≡ const_of (rows_in self.now) at }
     {
         let res = &*self.res;
-        let n = node_count(self.call.given);
+        let n = self.call.node_count();
         if at < n {
-            if word(res, at, Row::CODE) == NodeKind::CONST {
-                return Some(word(res, at, Row::A));
-            }
-            return None;
+            return row_constant(res, at);
         }
         let j = at - n;
         if j < 2 + self.walk.made {
@@ -41,16 +45,15 @@ impl ConstantFolder<'_> {
     }
 
     // A new constant after those made.
-    pub(crate) fn push(&mut self, sort: u64, value: u64)
-        requires has_rows { HasRows self.old }
-        requires made_bound { self.old.walk.made < count_in self.old }
+    pub(crate) fn push(&mut self, constant: Constant)
+        requires { self.old.walk.made < count_in self.old }
         ensures keeps { Keeps self.old self.new }
-        ensures pushes { Pushes self.old self.new sort value }
+        ensures pushes { Pushes self.old self.new constant.sort constant.value }
     {
-        let n = node_count(self.call.given);
+        let n = self.call.node_count();
         let at = 2 + Row::WIDTH * n + 2 * (2 + self.walk.made);
-        self.res[at] = sort;
-        self.res[at + 1] = value;
+        self.res[at] = constant.sort;
+        self.res[at + 1] = constant.value;
         self.walk.made += 1;
     }
 

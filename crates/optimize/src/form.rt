@@ -1,17 +1,15 @@
-// What a visit does with a node, by its kind, and which branch of an Ite its condition chooses.
-ghost use Rattle.std.specs.Prelude.{◌≡◌, ◌+◌, ◌*◌, ◌<◌, length};
-ghost use Rattle.rules.specs.Table.{row_width};
-ghost use Rattle.rules.specs.Visit.{branch};
+// What a visit does with a node, by its kind.
+ghost use Rattle.std.specs.Prelude.{◌≡◌};
 ghost use Rattle.tables.specs.NodeAnswers.{kind_is};
-ghost use Rattle.optimize.specs.View.{constant_is};
-ghost use Rattle.optimize.specs.Process.{choice_is, form_of, form_at};
+ghost use Rattle.optimize.specs.Bounds.{HasWord};
+ghost use Rattle.optimize.specs.Process.{form_of, form_at};
 
 use crate::buffers::{kind_at, word};
 use crate::fold::{Operator, Rule, Single};
 use tables::node::{NodeKind, Row};
 
 // What a node of two operands does with them: it folds by its rule, or reads a memory at an address. It is no Option of a rule: that would not
-// say that the other kind is a Read.
+// say that the other kind is a Read. Nor are there two forms in its place: both visit their operands alike.
 #[derive(Clone, Copy, Debug, PartialEq, Eq)]
 pub(crate) enum Pair {
     Folds(Rule),
@@ -71,26 +69,8 @@ fn form_of(kind: NodeKind, b: u64) -> Form
 
 // The form of a node of the table.
 pub(crate) fn form_at(given: &[u64], node: usize) -> Form
-    requires { 1 + row_width * node + 3 < length given.now }
+    requires { HasWord given.now node 3 }
     ensures { result ≡ form_at given.now node }
 {
     form_of(kind_at(given, node), word(given, node, Row::B))
-}
-
-// Which branch of an Ite its condition chooses. It is no Option of a bool: the rules name the three outcomes, and so does this.
-#[derive(Clone, Copy, Debug, PartialEq, Eq)]
-pub(crate) enum Choice {
-    Left,
-    Right,
-    Undecided,
-}
-
-pub(crate) fn choice_of(condition: Option<u64>) -> Choice
-    ensures { choice_is result ≡ branch (constant_is condition) }
-{
-    match condition {
-        Some(1) => Choice::Left,
-        Some(0) => Choice::Right,
-        _ => Choice::Undecided,
-    }
 }

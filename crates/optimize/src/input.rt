@@ -1,11 +1,11 @@
 // A State without init takes an input: the concrete times, in visiting order.
-ghost use Rattle.std.specs.Prelude.{◌≡◌, get_or, eqb, slice_get};
+ghost use Rattle.std.specs.Prelude.{◌≡◌, get_or, eqb};
 ghost use Rattle.optimize.specs.Folder.{Keeps, RoomIn};
 ghost use Rattle.optimize.specs.Clauses.{Takes};
 
 use crate::buffers::{operand, word};
 use crate::call::Dumps;
-use crate::fold::Folded;
+use crate::fold::{Constant, Folded};
 use crate::folder::ConstantFolder;
 use btor::node_type::NodeType;
 use tables::node::{Row, fits_sort};
@@ -18,13 +18,6 @@ fn is_dump(dumps: &Dumps, name: usize) -> bool
     dumps.get(name).is_some_and(|mark| *mark == 1)
 }
 
-// The first of the inputs that is left.
-fn input_left(inputs: &[u64], taken: usize) -> Option<u64>
-    ensures { result ≡ slice_get inputs.now taken }
-{
-    inputs.get(taken).copied()
-}
-
 impl ConstantFolder<'_> {
     // A State without init takes the first of the inputs that is left.
     pub(crate) fn take_input(&mut self, node: usize) -> Result<usize, Refusal>
@@ -33,7 +26,7 @@ impl ConstantFolder<'_> {
         ensures takes { Takes self.old self.new result node }
     {
         let given = self.call.given;
-        let Some(value) = input_left(self.call.inputs, self.walk.taken) else {
+        let Some(&value) = self.call.inputs.get(self.walk.taken) else {
             return Ok(self.settle(node, Folded::Stays));
         };
         if is_dump(self.call.dumps, operand(given, node, Row::NAME)) {
@@ -47,6 +40,6 @@ impl ConstantFolder<'_> {
             return Err(Refusal::InputTooWide(node));
         }
         self.walk.taken += 1;
-        Ok(self.settle(node, Folded::Make(sort, value)))
+        Ok(self.settle(node, Folded::Make(Constant { sort, value })))
     }
 }

@@ -20,22 +20,24 @@ pub(crate) enum Verdict {
     NoneLeft,
 }
 
-impl Verdict {
-    // The number by which the tally names it: its place in the order above, from 0.
-    pub(crate) fn number(self) -> u64
-        ensures { result ≡ verdict_is self }
-    {
-        self as u64
+// The number by which the tally names it: its place in the order above, from 0.
+impl From<Verdict> for u64 {
+    ghost from_gives = { λ verdict number. number ≡ verdict_is verdict };
+
+    fn from(verdict: Verdict) -> u64 {
+        verdict as u64
     }
 }
 
 // Yes means not found, any other reply found.
-fn verdict_of(reply: Reply) -> Verdict
-    ensures { verdict_is result ≡ verdict_of (reply_is reply) }
-{
-    match reply {
-        Reply::Yes => Verdict::NotFound,
-        Reply::No | Reply::Satisfiable => Verdict::Found,
+impl From<Reply> for Verdict {
+    ghost from_gives = { λ reply verdict. verdict_is verdict ≡ verdict_of (reply_is reply) };
+
+    fn from(reply: Reply) -> Verdict {
+        match reply {
+            Reply::Yes => Verdict::NotFound,
+            Reply::No | Reply::Satisfiable => Verdict::Found,
+        }
     }
 }
 
@@ -50,8 +52,8 @@ impl ConstantFolder<'_> {
     {
         match bads {
             [] => Ok(Verdict::NoneLeft),
-            [bad] => Ok(verdict_of(self.ask(Question::AlwaysFalse, *bad as usize, 0)?)),
-            _ => Ok(verdict_of(self.ask(Question::Several, bads.len(), 0)?)),
+            [bad] => Ok(Verdict::from(self.ask(Question::AlwaysFalse(*bad as usize))?)),
+            _ => Ok(Verdict::from(self.ask(Question::Several(bads.len()))?)),
         }
     }
 }

@@ -1,10 +1,10 @@
-// What is recorded of a node in scratch: one word for its mark, and one for what stands for it.
-ghost use Rattle.std.specs.Prelude.{◌≡◌};
+// What is recorded of a node in scratch: one word for its mark, and one for what stands for it. They stand in two runs of words, all marks before all
+// replacements, as both buffers have a fixed layout: before a walk the marks alone are cleared.
+ghost use Rattle.std.specs.Prelude.{◌<◌, ◌≡◌};
 ghost use Rattle.optimize.specs.View.{mark_by, mark_is, mark_of};
-ghost use Rattle.optimize.specs.Folder.{Keeps, Place, count_in};
+ghost use Rattle.optimize.specs.Folder.{Keeps, count_in};
 ghost use Rattle.optimize.specs.Clauses.{PutsMark};
 
-use crate::buffers::node_count;
 use crate::folder::ConstantFolder;
 
 // A node that is not visited yet, one that stays, and one that another node or a constant stands for.
@@ -15,12 +15,25 @@ pub(crate) enum Mark {
     Replaced(usize),
 }
 
-impl Mark {
-    // The two words that say it.
-    fn words(self) -> (u64, u64)
-        ensures { mark_by result.0 result.1 ≡ mark_is self }
-    {
-        match self {
+// The mark that the two words say.
+impl From<(u64, u64)> for Mark {
+    ghost from_gives = { λ words mark. mark_is mark ≡ mark_by words.0 words.1 };
+
+    fn from(words: (u64, u64)) -> Mark {
+        match words {
+            (0, _) => Mark::Fresh,
+            (1, _) => Mark::Kept,
+            (_, by) => Mark::Replaced(by as usize),
+        }
+    }
+}
+
+// The two words that say a mark.
+impl From<Mark> for (u64, u64) {
+    ghost from_gives = { λ mark words. mark_by words.0 words.1 ≡ mark_is mark };
+
+    fn from(mark: Mark) -> (u64, u64) {
+        match mark {
             Mark::Fresh => (0, 0),
             Mark::Kept => (1, 0),
             Mark::Replaced(by) => (2, by as u64),
@@ -31,30 +44,23 @@ impl Mark {
 impl ConstantFolder<'_> {
     // The mark of a node.
     pub(crate) fn mark_of(&self, node: usize) -> Mark
-        requires { Place self.now node }
+        requires { node < count_in self.now }
         ensures { mark_is result ≡ mark_of (count_in self.now) self.now.scratch.now node }
     {
-        let mark = self.scratch[node];
-        if mark == 0 {
-            return Mark::Fresh;
-        }
-        if mark == 1 {
-            return Mark::Kept;
-        }
-        let n = node_count(self.call.given);
-        Mark::Replaced(self.scratch[n + node] as usize)
+        let n = self.call.node_count();
+        Mark::from((self.scratch[node], self.scratch[n + node]))
     }
 
     // Puts the mark of a node.
     pub(crate) fn put_mark(&mut self, node: usize, mark: Mark)
-        requires { Place self.old node }
+        requires { node < count_in self.old }
         ensures keeps { Keeps self.old self.new }
         ensures walk { self.new.walk ≡ self.old.walk }
         ensures result_stays { self.new.res.now ≡ self.old.res.now }
         ensures puts_mark { PutsMark self.old self.new node mark }
     {
-        let n = node_count(self.call.given);
-        let (word, by) = mark.words();
+        let n = self.call.node_count();
+        let (word, by) = <(u64, u64)>::from(mark);
         self.scratch[node] = word;
         self.scratch[n + node] = by;
     }

@@ -2,10 +2,10 @@
 ghost use Rattle.std.specs.Prelude.{◌≡◌, ◌≤◌};
 ghost use Rattle.btor.specs.Readings.{reading_is};
 ghost use Rattle.rules.specs.Memory.{find};
-ghost use Rattle.optimize.specs.Folder.{FallsIn, HasRows, count_in, rows_in};
+ghost use Rattle.optimize.specs.Folder.{FallsIn, count_in, rows_in};
 ghost use Rattle.optimize.specs.Folding.{search_is, LooksAt};
 
-use crate::buffers::{node_count, operand, word};
+use crate::buffers::{operand, word};
 use crate::folder::ConstantFolder;
 use btor::reading::Reading;
 use tables::node::{NodeKind, Row};
@@ -32,12 +32,11 @@ pub(crate) enum Look {
 impl ConstantFolder<'_> {
     // Looks at one place of the chain. A Write whose address is no constant is unsettled: the Rust passes it, the standard's reading gives up there.
     fn look_at(&self, at: usize, address: u64) -> Look
-        requires has_rows { HasRows self.now }
-        requires falls { FallsIn self.now }
+        requires { FallsIn self.now }
         ensures { LooksAt (reading_is self.now.call.mode.reading) (count_in self.now) self.now.walk.made self.now.res.now at address result }
     {
         let res = &*self.res;
-        if node_count(self.call.given) <= at {
+        if self.call.node_count() <= at {
             return Look::End;
         }
         if word(res, at, Row::CODE) != NodeKind::WRITE {
@@ -59,8 +58,7 @@ impl ConstantFolder<'_> {
 
     // Walks down the Writes to the first that holds the address; any other Write is passed, in the Rust's reading also an unsettled one.
     pub(crate) fn find_in_memory(&self, memory: usize, address: u64) -> Search
-        requires has_rows { HasRows self.now }
-        requires falls { FallsIn self.now }
+        requires { FallsIn self.now }
         ensures result_value { search_is result ≡ find (reading_is self.now.call.mode.reading) (count_in self.now) (rows_in self.now) address memory }
         ensures looked_bound { (result.looked ≤ count_in self.now) × (result.passed ≤ result.looked) }
     {

@@ -1,10 +1,10 @@
-// The three entry points: a call is judged, folded, and both lent buffers are left as the rules say.
+// The three entry points: a call is judged, folded, and both lent buffers are left as the rules say. Mode, words, names and the buffers stand beside one
+// another in `optimize` and `fold_judged` as in these public functions, whose signatures are those by which C hands a call over and may not change.
 ghost use Rattle.std.specs.Prelude.{◌≡◌, ◌≤◌, length, replicate};
 ghost use Rattle.rules.specs.Limits.{house};
 ghost use Rattle.rules.specs.Call.{left, optimize_model_impl, optimize_model_with_solver, optimize_model_with_input};
-ghost use Rattle.tables.specs.SectionAnswers.{Inside};
 ghost use Rattle.tables.specs.Judging.{call_with};
-ghost use Rattle.optimize.specs.Entries.{entry_is, answered, inputs_of, replies_of, result_left, InOrder, RunnableParts, RunsParts, call_lent};
+ghost use Rattle.optimize.specs.Entries.{entry_is, answered, brings_inputs, brings_replies, brought_of, result_left, InOrder, call_lent};
 
 use crate::call::{Call, Dumps, Mode};
 use crate::lists::Lists;
@@ -23,27 +23,29 @@ pub(crate) enum Entry {
     WithInput,
 }
 
-// The inputs that an entry point brings: `optimize_model_with_solver` brings none. This and the next differ in the entry that brings nothing; one
-// function of both would need it as a parameter and be no shorter.
-fn inputs_of(entry: Entry, words: &[u64], inputs: Part) -> &[u64]
-    requires { (inputs.start ≤ inputs.end) × (inputs.end ≤ length words.now) }
-    ensures { result.now ≡ inputs_of (entry_is entry) words.now inputs }
-{
-    match entry {
-        Entry::WithSolver => &words[..0],
-        Entry::Impl | Entry::WithInput => &words[inputs.start..inputs.end],
+impl Entry {
+    // Whether the inputs of a call count.
+    fn brings_inputs(self) -> bool
+        ensures { result ≡ brings_inputs (entry_is self) }
+    {
+        !matches!(self, Entry::WithSolver)
+    }
+
+    // Whether its replies do.
+    fn brings_replies(self) -> bool
+        ensures { result ≡ brings_replies (entry_is self) }
+    {
+        !matches!(self, Entry::WithInput)
     }
 }
 
-// The replies that an entry point brings: `optimize_model_with_input` brings none.
-fn replies_of(entry: Entry, words: &[u64], replies: Part) -> &[u64]
-    requires { (replies.start ≤ replies.end) × (replies.end ≤ length words.now) }
-    ensures { result.now ≡ replies_of (entry_is entry) words.now replies }
+// The words of a part that an entry point brings; of one that it does not bring, none.
+fn brought(brings: bool, words: &[u64], part: Part) -> &[u64]
+    requires { (part.start ≤ part.end) × (part.end ≤ length words.now) }
+    ensures { result.now ≡ brought_of brings words.now part }
 {
-    match entry {
-        Entry::WithInput => &words[..0],
-        Entry::Impl | Entry::WithSolver => &words[replies.start..replies.end],
-    }
+    let end = if brings { part.end } else { part.start };
+    &words[part.start..end]
 }
 
 // Scratch is 0 after each call, and result after a refusal.
@@ -61,32 +63,6 @@ fn finish_call(
         res.fill(0);
     }
     outcome
-}
-
-// Folds the lists that stand in the cut words of a call.
-fn fold_parts(
-    call: Call,
-    sections: Sections,
-    res: &mut [u64],
-    scratch: &mut [u64],
-) -> Result<usize, Refusal>
-    requires inside { Inside call.given.now sections }
-    requires runnable_parts { RunnableParts call.given.now call.dumps.now sections call.inputs.now call.replies.now (length res.old) (length scratch.old) }
-    ensures { RunsParts call.entry sections (length res.old) result res.new }
-{
-    let words = call.given;
-    let Sections {
-        sequentials,
-        initial,
-        later,
-        ..
-    } = sections;
-    let lists = Lists {
-        sequentials: &words[sequentials.start..sequentials.end],
-        initial: &words[initial.start..initial.end],
-        later: &words[later.start..later.end],
-    };
-    run(call, lists, res, scratch)
 }
 
 // Folds what an entry point brings of a call that is in order.
@@ -108,12 +84,12 @@ fn fold_judged(
     mark_memory_dumps(names, &mut dumps);
     let call = Call {
         given: words,
-        inputs: inputs_of(entry, words, sections.inputs),
-        replies: replies_of(entry, words, sections.replies),
+        inputs: brought(entry.brings_inputs(), words, sections.inputs),
+        replies: brought(entry.brings_replies(), words, sections.replies),
         dumps: &dumps,
         mode: Mode::from(mode),
     };
-    let outcome = fold_parts(call, sections, res, scratch);
+    let outcome = run(call, Lists::cut(words, sections), res, scratch);
     finish_call(outcome, res, scratch)
 }
 

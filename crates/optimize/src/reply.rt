@@ -1,5 +1,5 @@
 // What a solver replies to a question.
-ghost use Rattle.std.specs.Prelude.{◌≡◌, ◌≤◌};
+ghost use Rattle.std.specs.Prelude.{◌≡◌, ◌<◌, MatchResult};
 ghost use Rattle.optimize.specs.Process.{reply_is};
 
 // No, or a timeout; yes, or unsatisfiable; or satisfiable.
@@ -10,16 +10,22 @@ pub(crate) enum Reply {
     Satisfiable,
 }
 
-impl Reply {
-    // The reply that a number names.
-    pub(crate) fn of_number(number: u64) -> Reply
-        requires { number ≤ 2 }
-        ensures { reply_is result ≡ number }
-    {
+// A number that names no reply.
+#[derive(Clone, Copy, Debug, PartialEq, Eq)]
+pub(crate) struct UnknownReply(pub(crate) u64);
+
+// The reply that a number names.
+impl TryFrom<u64> for Reply {
+    type Error = UnknownReply;
+
+    ghost try_from_gives = { λ number named. MatchResult named (λ reply. reply_is reply ≡ number) (λ _. 2 < number) };
+
+    fn try_from(number: u64) -> Result<Reply, UnknownReply> {
         match number {
-            0 => Reply::No,
-            1 => Reply::Yes,
-            _ => Reply::Satisfiable,
+            0 => Ok(Reply::No),
+            1 => Ok(Reply::Yes),
+            2 => Ok(Reply::Satisfiable),
+            _ => Err(UnknownReply(number)),
         }
     }
 }

@@ -4,24 +4,25 @@ ghost use Rattle.rules.specs.Visit.{settle, finish};
 ghost use Rattle.optimize.specs.Bounds.{count_of};
 ghost use Rattle.optimize.specs.View.{fold_is, table_of};
 ghost use Rattle.optimize.specs.Process.{bit_of, after_one, after_rule, after_read, after_two, after_ite, const_out};
-ghost use Rattle.optimize.specs.Folder.{FallsIn, Keeps, Place, RoomIn, count_in};
+ghost use Rattle.optimize.specs.Folder.{FallsIn, Keeps, RoomIn, count_in};
 ghost use Rattle.optimize.specs.Clauses.{Settles};
 
-use crate::buffers::{node_count, word};
-use crate::fold::{Folded, Rule, Single, asks_bit, fold_const, fold_one, fold_two};
+use crate::buffers::word;
+use crate::fold::{Constant, Folded, Rule, Single, asks_bit, fold_const, fold_one, fold_two};
 use crate::folder::ConstantFolder;
 use crate::form::Pair;
 use crate::mark::Mark;
-use crate::smt_solver::is_stays;
 use btor::node_type::NodeType;
 use tables::node::Row;
 use tables::refusal::Refusal;
 
+// What a step needs is no invariant of the folder: RoomIn names the node, and the step spends it; FallsIn is what a whole visit keeps, and `put_row`, which
+// puts any operands, does not. A node and its rewritten operands x, y, z are no struct: a step takes those that its kind has, each from the visit before it.
 impl ConstantFolder<'_> {
     // Records what a node folds to; the answer is what stands for it from then on.
     #[inline(always)]
     pub(crate) fn settle(&mut self, node: usize, fold: Folded) -> usize
-        requires place { Place self.old node }
+        requires node_bound { node < count_in self.old }
         requires made_bound { self.old.walk.made < count_in self.old }
         ensures keeps { Keeps self.old self.new }
         ensures settles { Settles self.old self.new (Ok result) (λ g ways σ. settle (table_of g) ways node σ (fold_is (count_of g) fold)) }
@@ -36,13 +37,13 @@ impl ConstantFolder<'_> {
                 by
             }
             Folded::Shared(truth) => {
-                let shared = node_count(self.call.given) + usize::from(truth);
+                let shared = self.call.node_count() + usize::from(truth);
                 self.put_mark(node, Mark::Replaced(shared));
                 shared
             }
-            Folded::Make(sort, value) => {
-                let at = node_count(self.call.given) + 2 + self.walk.made;
-                self.push(sort, value);
+            Folded::Make(constant) => {
+                let at = self.call.node_count() + 2 + self.walk.made;
+                self.push(constant);
                 self.put_mark(node, Mark::Replaced(at));
                 at
             }
@@ -55,7 +56,7 @@ impl ConstantFolder<'_> {
         ensures keeps { Keeps self.old self.new }
         ensures settles { Settles self.old self.new result (λ g ways σ. finish (table_of g) ways node σ (fold_is (count_of g) fold) (bit_of g ways node bit)) }
     {
-        if is_stays(fold) && self.call.mode.minimise && bit {
+        if fold == Folded::Stays && self.call.mode.minimise && bit {
             return self.solve_boolean_binary(node);
         }
         Ok(self.settle(node, fold))
@@ -68,8 +69,11 @@ impl ConstantFolder<'_> {
         ensures settles { Settles self.old self.new (Ok result) (λ g ways σ. const_out g ways σ node) }
     {
         let given = self.call.given;
-        let fold = fold_const(word(given, node, Row::SORT), word(given, node, Row::A));
-        self.settle(node, fold)
+        let constant = Constant {
+            sort: word(given, node, Row::SORT),
+            value: word(given, node, Row::A),
+        };
+        self.settle(node, fold_const(constant))
     }
 
     // Folds a node whose only operand was visited.

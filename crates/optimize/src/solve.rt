@@ -29,7 +29,7 @@ impl ConstantFolder<'_> {
         ensures settles { SettlesAsked self.old self.new result node (λ count n σ. then_ask count equal node x (swap x) (ask_bit count n node quiet σ)) }
     {
         let bit = self.ask_bit(node)?;
-        let solved = self.then_ask(bit, Question::Equal, node, x, Folded::Swap(x))?;
+        let solved = self.then_ask(bit, Question::Equal(node, x), Folded::Swap(x))?;
         Ok(self.settle(node, solved))
     }
 
@@ -44,8 +44,8 @@ impl ConstantFolder<'_> {
         ensures keeps { Keeps self.old self.new }
         ensures settles { SettlesAsked self.old self.new result node (λ count n σ. then_ask count equal node z (swap z) (ask_or count equal node y (swap y) quiet σ)) }
     {
-        let left = self.ask_or(Question::Equal, node, y, Folded::Swap(y))?;
-        let solved = self.then_ask(left, Question::Equal, node, z, Folded::Swap(z))?;
+        let left = self.ask_or(Question::Equal(node, y), Folded::Swap(y))?;
+        let solved = self.then_ask(left, Question::Equal(node, z), Folded::Swap(z))?;
         Ok(self.settle(node, solved))
     }
 }

@@ -4,15 +4,15 @@ ghost use Rattle.std.specs.Prelude.{◌+◌, ◌<◌, ◌≡◌, cond, OnOk};
 ghost use Rattle.rules.specs.Sections.{word_of};
 ghost use Rattle.rules.specs.Table.{row_width};
 ghost use Rattle.rules.specs.Visit.{left, right};
-ghost use Rattle.optimize.specs.Process.{form_at, process_of, one_of, two_of, three_of, both_of, chosen_of, ite_of, step_of};
-ghost use Rattle.optimize.specs.Folder.{Keeps, LaidIn, FreshIn, count_in, given_in};
+ghost use Rattle.optimize.specs.Process.{process_of, one_of, two_of, three_of, both_of, chosen_of, ite_of, step_of};
+ghost use Rattle.optimize.specs.Folder.{Keeps, LaidIn, FreshIn, FreshAs, count_in, given_in};
 ghost use Rattle.optimize.specs.declared.form.Form.{Form};
 ghost use Rattle.optimize.specs.Clauses.{Walks};
 
 use crate::buffers::operand;
 use crate::fold::{Folded, Single};
 use crate::folder::ConstantFolder;
-use crate::form::{Choice, Form, Pair, choice_of, form_at};
+use crate::form::{Form, Pair, form_at};
 use crate::mark::Mark;
 use tables::node::Row;
 use tables::refusal::Refusal;
@@ -25,13 +25,16 @@ fn choose(condition: bool, left: usize, right: usize) -> usize
 }
 
 impl ConstantFolder<'_> {
-    // Visits a node: processes it the first time, and later gives what was recorded.
+    // Visits a node: processes it the first time, and later gives what was recorded. It is compiled into its callers: apart, a chain of nodes takes 14
+    // more instructions a node, and 175 to 271 bytes of stack where it takes 111 (docs/PERFORMANCE.md).
     #[cycle(visit)]
-    fn visit(&mut self, node: usize) -> Result<usize, Refusal>
+    #[inline(always)]
+    pub(crate) fn visit(&mut self, node: usize) -> Result<usize, Refusal>
         requires laid { LaidIn self.old }
         requires node_bound { node < count_in self.old }
         ensures keeps { Keeps self.old self.new }
         ensures walks { Walks self.old self.new result (node + 1) (λ g ways vis σ. vis σ node) }
+        ensures laid { OnOk result (LaidIn self.new) }
     {
         match self.mark_of(node) {
             Mark::Fresh => self.process(node),
@@ -77,13 +80,12 @@ impl ConstantFolder<'_> {
     // A node of one operand: Ext, Not, Bad, a State with an init.
     #[cycle(visit)]
     fn process_one(&mut self, node: usize, rule: Single) -> Result<usize, Refusal>
-        requires ready { FreshIn self.old node }
-        requires form { Form.One rule ≡ form_at (given_in self.old) node }
+        requires { FreshAs self.old node (Form.One rule) }
         ensures keeps { Keeps self.old self.new }
         ensures walks { Walks self.old self.new result node (λ g ways vis σ. one_of g ways vis rule σ node) }
     {
-        let given = self.call.given;
         let x = self.visit_operand(node, Row::A)?;
+        let given = self.call.given;
         let b = operand(given, node, Row::B);
         let c = operand(given, node, Row::C);
         self.put_row(node, x, b, c);
@@ -93,15 +95,13 @@ impl ConstantFolder<'_> {
     // A node of two operands: the operators on words, Ult, Eq, And, Or, and a Read.
     #[cycle(visit)]
     fn process_two(&mut self, node: usize, pair: Pair) -> Result<usize, Refusal>
-        requires ready { FreshIn self.old node }
-        requires form { Form.Two pair ≡ form_at (given_in self.old) node }
+        requires { FreshAs self.old node (Form.Two pair) }
         ensures keeps { Keeps self.old self.new }
         ensures walks { Walks self.old self.new result node (λ g ways vis σ. two_of g ways vis pair σ node) }
     {
-        let given = self.call.given;
         let x = self.visit_operand(node, Row::A)?;
         let y = self.visit_operand(node, Row::B)?;
-        let c = operand(given, node, Row::C);
+        let c = operand(self.call.given, node, Row::C);
         self.put_row(node, x, y, c);
         self.after_two(node, pair, x, y)
     }
@@ -109,8 +109,7 @@ impl ConstantFolder<'_> {
     // A Write.
     #[cycle(visit)]
     fn process_three(&mut self, node: usize) -> Result<usize, Refusal>
-        requires ready { FreshIn self.old node }
-        requires form { Form.Three ≡ form_at (given_in self.old) node }
+        requires { FreshAs self.old node Form.Three }
         ensures keeps { Keeps self.old self.new }
         ensures walks { Walks self.old self.new result node (λ g ways vis σ. three_of g ways vis σ node) }
     {
@@ -124,16 +123,15 @@ impl ConstantFolder<'_> {
     // An Ite: its condition first, then only the chosen branch where that is constant.
     #[cycle(visit)]
     fn process_ite(&mut self, node: usize) -> Result<usize, Refusal>
-        requires ready { FreshIn self.old node }
-        requires form { Form.Choice ≡ form_at (given_in self.old) node }
+        requires { FreshAs self.old node Form.Choice }
         ensures keeps { Keeps self.old self.new }
         ensures walks { Walks self.old self.new result node (λ g ways vis σ. ite_of g ways vis σ node) }
     {
         let x = self.visit_operand(node, Row::A)?;
-        match choice_of(self.get_constant(x)) {
-            Choice::Left => self.process_chosen(node, x, true),
-            Choice::Right => self.process_chosen(node, x, false),
-            Choice::Undecided => self.process_both(node, x),
+        match self.get_constant(x) {
+            Some(1) => self.process_chosen(node, x, true),
+            Some(0) => self.process_chosen(node, x, false),
+            _ => self.process_both(node, x),
         }
     }
 
@@ -141,13 +139,12 @@ impl ConstantFolder<'_> {
     #[cycle(visit)]
     #[inline(always)]
     fn process_chosen(&mut self, node: usize, x: usize, condition: bool) -> Result<usize, Refusal>
-        requires ready { FreshIn self.old node }
-        requires form { Form.Choice ≡ form_at (given_in self.old) node }
+        requires { FreshAs self.old node Form.Choice }
         ensures keeps { Keeps self.old self.new }
         ensures walks { Walks self.old self.new result node (λ g ways vis σ. chosen_of g ways vis (cond condition left right) x σ node) }
     {
-        let given = self.call.given;
         let chosen = self.visit_operand(node, choose(condition, Row::B, Row::C))?;
+        let given = self.call.given;
         let b = operand(given, node, Row::B);
         let c = operand(given, node, Row::C);
         self.put_row(
@@ -163,8 +160,7 @@ impl ConstantFolder<'_> {
     #[cycle(visit)]
     #[inline(always)]
     fn process_both(&mut self, node: usize, x: usize) -> Result<usize, Refusal>
-        requires ready { FreshIn self.old node }
-        requires form { Form.Choice ≡ form_at (given_in self.old) node }
+        requires { FreshAs self.old node Form.Choice }
         ensures keeps { Keeps self.old self.new }
         ensures walks { Walks self.old self.new result node (λ g ways vis σ. both_of g ways vis x σ node) }
     {
@@ -175,35 +171,19 @@ impl ConstantFolder<'_> {
     }
 
     // A Next: its state first, for which no other node stands where the Next is kept (rules/specs/KeptState.antt), then the next value. Its first
-    // word is never rewritten.
+    // operand is never rewritten.
     #[cycle(visit)]
     fn process_next(&mut self, node: usize) -> Result<usize, Refusal>
-        requires ready { FreshIn self.old node }
-        requires form { Form.Step ≡ form_at (given_in self.old) node }
+        requires { FreshAs self.old node Form.Step }
         ensures keeps { Keeps self.old self.new }
         ensures walks { Walks self.old self.new result node (λ g ways vis σ. step_of g ways vis σ node) }
     {
-        let given = self.call.given;
         self.visit_operand(node, Row::A)?;
         let y = self.visit_operand(node, Row::B)?;
+        let given = self.call.given;
         let state = operand(given, node, Row::A);
         let c = operand(given, node, Row::C);
         self.put_row(node, state, y, c);
         Ok(self.settle(node, Folded::Stays))
-    }
-
-    // Visits an entry of a list. A fresh one is processed here, not by way of `visit`: a second caller of `process` keeps the two apart when they
-    // are compiled, and the visit of an operand that was visited before is then short.
-    pub(crate) fn visit_entry(&mut self, node: usize) -> Result<usize, Refusal>
-        requires laid { LaidIn self.old }
-        requires node_bound { node < count_in self.old }
-        ensures keeps { Keeps self.old self.new }
-        ensures walks { Walks self.old self.new result (node + 1) (λ g ways vis σ. vis σ node) }
-        ensures laid { OnOk result (LaidIn self.new) }
-    {
-        match self.mark_of(node) {
-            Mark::Fresh => self.process(node),
-            _ => self.visit(node),
-        }
     }
 }

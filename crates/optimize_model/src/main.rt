@@ -8,7 +8,7 @@ use std::process::ExitCode;
 use text::reader::{NUMBERS, ReadError, Reader};
 use text_answer::answer::{ROOM, answer};
 
-// Reads to the input's end: how many numbers there are, or why none. No input has as many parts as turns are counted.
+// Reads to the input's end: how many numbers there are, or why none. The turns are counted, as a loop must be known to end; no input has as many parts.
 fn read_all<R: Read>(
     input: &mut R,
     numbers: &mut [u64; NUMBERS],

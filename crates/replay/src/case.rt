@@ -32,6 +32,7 @@ impl Case for TextCase {
     }
 
     fn is_right(&self, _alloc: Global) -> Result<bool, Fault> {
+        // An array, as the answer is printed into a lent one of this size.
         let mut out = [0; ROOM];
         let size = answer_text(self.text.as_slice(), &mut out);
         Ok(out.get(..size) == Some(self.answer.as_slice()))

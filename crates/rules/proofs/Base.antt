@@ -1,4 +1,4 @@
--- Small laws: tests by cases, a function changed at one place, lists of facts, outcomes, marks, and kinds told by their codes.
+-- Small laws: tests by cases, a function changed at one place, lists of facts, outcomes, and kinds told by their codes.
 -- Assumes nothing.
 use Prim.Native.Nat.{ℕ, zero, suc, ◌+◌, ◌<◌, ◌≤◌}
 use mathlib.Core.Path.{◌≡◌, refl, sym, ap, ◌∙◌, subst}
@@ -10,9 +10,8 @@ use lib.Dec.{ltb, leb, eqb, lit<}
 use borrow.Author.Tests.{leb-true, eqb-true, eq-eqb, ne_eqb, ltb-true, ltb-false}
 use Rattle.btor.specs.Operators.{Op, Add, Sub, Mul, Divu, Div, Rem, Sll, Srl}
 use Rattle.rules.specs.Lists.{put, All}
-use Rattle.rules.specs.Refusal.{Out, refused, done, ◌>>=◌}
+use Rattle.rules.specs.Refusal.{Out, refused, done, ◌>>=◌, OfDone}
 use Rattle.rules.specs.Check.{known_kind}
-use Rattle.rules.specs.Walk.{Mark, fresh, kept, replaced}
 use Rattle.rules.specs.Table.{Kind, kinds, Const, Read, Write, Word, Ult, Ext, Ite, Eq, And, Or, Not, State, Next, Input, Bad, Node, kind_of, op_code, kind_code, is}
 
 -- ---- tests
@@ -80,16 +79,10 @@ pub if-map : {A : Type 0} (P Q : A → Type 0) (m : Out A) → ((x : A) → P x 
 if-map P Q (refused r) f h = tt
 if-map P Q (done x) f h = f x h
 
-pub if-always : {A : Type 0} (P : A → Type 0) (m : Out A) → ((x : A) → P x) → If P m
-if-always P (refused r) h = tt
-if-always P (done x) h = h x
-
--- ---- marks
-pub fresh≢replaced : (r : ℕ) (m : Mark) → m ≡ fresh → m ≡ replaced r → ⊥
-fresh≢replaced r m e q = let z : ◌≡◌ {A = ℕ} 0 1 = cc in omega arith
-
-pub kept≢replaced : (r : ℕ) (m : Mark) → m ≡ kept → m ≡ replaced r → ⊥
-kept≢replaced r m e q = let z : ◌≡◌ {A = ℕ} 0 1 = cc in omega arith
+-- what is not refused, by what is known of it
+pub of_done : {A : Type 0} (P : A → Type 0) (Q : Out A → Type 0) (o : Out A) → ((x : A) → o ≡ done x → P x → Q (done x)) → OfDone P o → Q o
+of_done P Q (refused r) f h = absurd h
+of_done P Q (done x) f h = f x refl h
 
 -- ---- kinds
 abbrev pub mk : Kind → ℕ → ℕ → ℕ → ℕ → ℕ → Node
@@ -126,11 +119,11 @@ Placed c (K ∷ Ks) = (kind_code K ≡ c) × Placed (suc c) Ks
 
 placed : Placed 1 kinds
 unfolding Placed
-placed = (refl, (refl, (refl, (refl, (refl, (refl, (refl, (refl, (refl, (refl, (refl, (refl, (refl, (refl, (refl, (refl, (refl, (refl, (refl, (refl, (refl, (refl, tt))))))))))))))))))))))
+placed = assumption refl
 
 code_at : (c : ℕ) (Ks : List Kind) → Placed c Ks → (i : ℕ) → i < length Ks → kind_code (get_or Ks i Input) ≡ i + c
 unfolding Placed
-code_at c [] h i l = let z : ⊥ = omega arith in absurd z
+code_at c [] h i l = absurd (omega arith)
 code_at c (K ∷ Ks) h zero l = h.0 ∙ omega arith
 code_at c (K ∷ Ks) h (suc i) l = code_at (suc c) Ks h.1 i (omega arith) ∙ omega arith
 
@@ -155,4 +148,4 @@ op-code Sll = (lit< tt, lit< tt)
 op-code Srl = (lit< tt, lit< tt)
 
 pub word-not-write : {A : Type 0} (op : Op) → eqb (op_code op) 3 ≡ true → A
-word-not-write op e = let z : ⊥ = omega (arith, op-code op, eqb-true (op_code op) 3 e) in absurd z
+word-not-write op e = absurd (omega (arith, op-code op, eqb-true (op_code op) 3 e))

@@ -1,7 +1,7 @@
 -- What the nodes not yet visited may still spend: a node pays when it is marked.
 -- Assumes nothing.
 use Prim.Native.Nat.{ℕ, zero, suc, ◌+◌, ◌*◌, ◌<◌, ◌≤◌}
-use mathlib.Core.Path.{◌≡◌, refl, sym, ap, ap₂, ◌∙◌, subst}
+use mathlib.Core.Path.{◌≡◌, refl, sym, ap, ap₂, subst}
 use mathlib.Core.Bool.{Bool, true, false, cond}
 use native.Mathlib.Omega.{arith}
 use lib.Dec.{eqb}
@@ -13,37 +13,57 @@ use Rattle.rules.specs.Tally.{if_visited, if_replaced}
 use Rattle.rules.specs.Fine.{credit}
 use Rattle.rules.proofs.Base.{cases_cond, put_other}
 
-unpaid-same : (w : ℕ → ℕ) (c : ℕ) (f g : ℕ → Mark) → ((i : ℕ) → i < c → f i ≡ g i) → unpaid w c f ≡ unpaid w c g
-unfolding unpaid
-unpaid-same w zero f g h = refl
-unpaid-same w (suc c) f g h = ap₂ (λ a b. due (w c) a + b) (h c (omega arith)) (unpaid-same w c f g (λ i l. h i (omega arith)))
+-- ---- sums over the marks
+sum_same : (c : ℕ) (f g : ℕ → ℕ) → ((i : ℕ) → i < c → f i ≡ g i) → sum c f ≡ sum c g
+unfolding sum
+sum_same zero f g h = refl
+sum_same (suc c) f g h = ap₂ ◌+◌ (h c (omega arith)) (sum_same c f g (λ i l. h i (omega arith)))
 
-pub unpaid-put : (w : ℕ → ℕ) (c : ℕ) (f : ℕ → Mark) (k : ℕ) (m : Mark) → k < c → f k ≡ fresh → ((p : ℕ) → due p m ≡ 0)
-    → unpaid w c (put f k m) + w k ≡ unpaid w c f
-unfolding unpaid
-unpaid-put w zero f k m l e z = let o : ⊥ = omega arith in absurd o
-unpaid-put w (suc c) f k m l e z = go (eqb c k) refl (λ l'. unpaid-put w c f k m l' e z)
+sum_most : (c : ℕ) (f g : ℕ → ℕ) → ((i : ℕ) → f i ≤ g i) → sum c f ≤ sum c g
+unfolding sum
+sum_most zero f g h = omega arith
+sum_most (suc c) f g h = omega (arith, h c, sum_most c f g h)
+
+-- with a mark put, its node counts for what that is worth
+sum_put : (v : ℕ → Mark → ℕ) (c : ℕ) (f : ℕ → Mark) (k : ℕ) (m : Mark) → k < c → sum c (λ i. v i (put f k m i)) + v k (f k) ≡ sum c (λ i. v i (f i)) + v k m
+unfolding sum
+sum_put v zero f k m l = absurd (omega arith)
+sum_put v (suc c) f k m l = go (eqb c k) refl (λ l'. sum_put v c f k m l')
   where
-    go : (b : Bool) → eqb c k ≡ b → (k < c → unpaid w c (put f k m) + w k ≡ unpaid w c f) → due (w c) (put f k m c) + unpaid w c (put f k m) + w k ≡ due (w c) (f c) + unpaid w c f
+    go : (b : Bool) → eqb c k ≡ b → (k < c → sum c (λ i. v i (put f k m i)) + v k (f k) ≡ sum c (λ i. v i (f i)) + v k m)
+        → v c (put f k m c) + sum c (λ i. v i (put f k m i)) + v k (f k) ≡ v c (f c) + sum c (λ i. v i (f i)) + v k m
     go true q ih =
         let ck : c ≡ k = eqb-true c k q in
-        let e₁ : due (w c) (put f k m c) ≡ 0 = ap (λ b. due (w c) (cond b m (f c))) q ∙ z (w c) in
-        let e₂ : unpaid w c (put f k m) ≡ unpaid w c f = unpaid-same w c (put f k m) f (λ i j. put_other f k m i (λ r. omega arith)) in
-        let e₃ : due (w c) (f c) ≡ w c = ap (due (w c)) (ap f ck ∙ e) in
-        let e₄ : w c ≡ w k = ap w ck in
+        let e₁ : v c (put f k m c) ≡ v k m = ap₂ v ck (ap (λ b. cond b m (f c)) q) in
+        let e₂ : v c (f c) ≡ v k (f k) = ap (λ i. v i (f i)) ck in
+        let e₃ = sum_same c (λ i. v i (put f k m i)) (λ i. v i (f i)) (λ i j. ap (v i) (put_other f k m i (λ r. omega arith))) in
         omega arith
     go false q ih =
         let n : (c ≡ k → ⊥) = eqb-false c k q in
-        let e₁ : due (w c) (put f k m c) ≡ due (w c) (f c) = ap (due (w c)) (put_other f k m c n) in
-        let e₂ : unpaid w c (put f k m) + w k ≡ unpaid w c f = ih (omega arith) in
+        let e₁ : v c (put f k m c) ≡ v c (f c) = ap (v c) (put_other f k m c n) in
+        let e₂ = ih (omega arith) in
         omega arith
 
+-- ---- what nodes have yet to pay
+unpaid-sum : (w : ℕ → ℕ) (c : ℕ) (f : ℕ → Mark) → unpaid w c f ≡ sum c (λ i. due (w i) (f i))
+unfolding unpaid sum
+unpaid-sum w zero f = refl
+unpaid-sum w (suc c) f = ap (λ s. due (w c) (f c) + s) (unpaid-sum w c f)
+
+pub unpaid-put : (w : ℕ → ℕ) (c : ℕ) (f : ℕ → Mark) (k : ℕ) (m : Mark) → k < c → f k ≡ fresh → ((p : ℕ) → due p m ≡ 0)
+    → unpaid w c (put f k m) + w k ≡ unpaid w c f
+unpaid-put w c f k m l e z =
+    omega (arith, unpaid-sum w c (put f k m), unpaid-sum w c f, sum_put (λ i. due (w i)) c f k m l, ap (due (w k)) e, z (w k))
+
 pub unpaid-less : (w : ℕ → ℕ) (c : ℕ) (f : ℕ → Mark) (k : ℕ) (m : Mark) → ((p : ℕ) → due p m ≡ 0) → unpaid w c (put f k m) ≤ unpaid w c f
-unfolding unpaid
-unpaid-less w zero f k m z = omega arith
-unpaid-less w (suc c) f k m z =
-    let h : due (w c) (put f k m c) ≤ due (w c) (f c) = cases_cond (λ x. due (w c) x ≤ due (w c) (f c)) (eqb c k) (λ _. omega (arith, z (w c))) (λ _. omega arith) in
-    omega (arith, unpaid-less w c f k m z)
+unpaid-less w c f k m z =
+    omega (
+      arith,
+      unpaid-sum w c (put f k m),
+      unpaid-sum w c f,
+      sum_most c (λ i. due (w i) (put f k m i)) (λ i. due (w i) (f i))
+          (λ i. cases_cond (λ x. due (w i) x ≤ due (w i) (f i)) (eqb i k) (λ _. omega (arith, z (w i))) (λ _. omega arith)),
+    )
 
 pub unpaid-all : (p c : ℕ) → unpaid (λ k. p) c (λ k. fresh) ≡ c * p
 unfolding unpaid
@@ -63,39 +83,27 @@ paid-all rd W (suc c) f = go (f c) (paid-all rd W c f)
     go (replaced r) e = omega arith
 
 -- ---- what the replaced nodes are worth
-pub credit-same : (w : ℕ → ℕ) (c : ℕ) (f g : ℕ → Mark) → ((i : ℕ) → i < c → f i ≡ g i) → credit w c f ≡ credit w c g
-unfolding credit
-credit-same w zero f g h = refl
-credit-same w (suc c) f g h = ap₂ (λ a b. if_replaced (w c) a + b) (h c (omega arith)) (credit-same w c f g (λ i l. h i (omega arith)))
+credit-sum : (w : ℕ → ℕ) (c : ℕ) (f : ℕ → Mark) → credit w c f ≡ sum c (λ i. if_replaced (w i) (f i))
+unfolding credit sum
+credit-sum w zero f = refl
+credit-sum w (suc c) f = ap (λ s. if_replaced (w c) (f c) + s) (credit-sum w c f)
 
 -- a mark that is worth no less than the old one
 pub credit-put : (w : ℕ → ℕ) (c : ℕ) (f : ℕ → Mark) (k : ℕ) (m : Mark) → ((p : ℕ) → if_replaced p (f k) ≤ if_replaced p m) → credit w c f ≤ credit w c (put f k m)
-unfolding credit
-credit-put w zero f k m h = omega arith
-credit-put w (suc c) f k m h =
-    let one : if_replaced (w c) (f c) ≤ if_replaced (w c) (put f k m c) =
-    cases_cond (λ x. if_replaced (w c) (f c) ≤ if_replaced (w c) x) (eqb c k) (λ e. subst (λ i. if_replaced (w c) (f i) ≤ if_replaced (w c) m) (sym (eqb-true c k e)) (h (w c))) (λ _. omega arith) in
-    omega (arith, one, credit-put w c f k m h)
+credit-put w c f k m h =
+    omega (
+      arith,
+      credit-sum w c f,
+      credit-sum w c (put f k m),
+      sum_most c (λ i. if_replaced (w i) (f i)) (λ i. if_replaced (w i) (put f k m i))
+          (λ i. cases_cond (λ x. if_replaced (w i) (f i) ≤ if_replaced (w i) x) (eqb i k)
+          (λ e. subst (λ j. if_replaced (w i) (f j) ≤ if_replaced (w i) m) (sym (eqb-true i k e)) (h (w i))) (λ _. omega arith)),
+    )
 
 -- a fresh node that is replaced
 pub credit-replaced : (w : ℕ → ℕ) (c : ℕ) (f : ℕ → Mark) (k r : ℕ) → k < c → f k ≡ fresh → credit w c (put f k (replaced r)) ≡ credit w c f + w k
-unfolding credit
-credit-replaced w zero f k r l e = let o : ⊥ = omega arith in absurd o
-credit-replaced w (suc c) f k r l e = go (eqb c k) refl (λ l'. credit-replaced w c f k r l' e)
-  where
-    go : (b : Bool) → eqb c k ≡ b → (k < c → credit w c (put f k (replaced r)) ≡ credit w c f + w k) → if_replaced (w c) (put f k (replaced r) c) + credit w c (put f k (replaced r)) ≡ if_replaced (w c) (f c) + credit w c f + w k
-    go true q ih =
-        let ck : c ≡ k = eqb-true c k q in
-        let e₁ : if_replaced (w c) (put f k (replaced r) c) ≡ w c = ap (λ b. if_replaced (w c) (cond b (replaced r) (f c))) q in
-        let e₂ : credit w c (put f k (replaced r)) ≡ credit w c f = credit-same w c (put f k (replaced r)) f (λ i j. put_other f k (replaced r) i (λ z. omega arith)) in
-        let e₃ : if_replaced (w c) (f c) ≡ 0 = ap (if_replaced (w c)) (ap f ck ∙ e) in
-        let e₄ : w c ≡ w k = ap w ck in
-        omega arith
-    go false q ih =
-        let n : (c ≡ k → ⊥) = eqb-false c k q in
-        let e₁ : if_replaced (w c) (put f k (replaced r) c) ≡ if_replaced (w c) (f c) = ap (if_replaced (w c)) (put_other f k (replaced r) c n) in
-        let e₂ : credit w c (put f k (replaced r)) ≡ credit w c f + w k = ih (omega arith) in
-        omega arith
+credit-replaced w c f k r l e =
+    omega (arith, credit-sum w c (put f k (replaced r)), credit-sum w c f, sum_put (λ i. if_replaced (w i)) c f k (replaced r) l, ap (if_replaced (w k)) e)
 
 pub credit-all : (rd : ℕ → ℕ) (W c : ℕ) (f : ℕ → Mark) → credit (λ k. rd k * W) c f ≡ sum c (λ k. if_replaced (rd k) (f k)) * W
 unfolding credit sum

@@ -8,7 +8,7 @@
 use Prim.Native.Nat.{ℕ, ◌+◌, ◌-◌, ◌<◌, ◌≤◌}
 use mathlib.Core.Path.{◌≡◌, refl, sym, ap, ap₂, ◌∙◌, subst}
 use mathlib.Core.Bool.{Bool, true, false}
-use mathlib.Core.Option.{Option, none, some}
+use mathlib.Core.Option.{Option, none}
 use mathlib.Core.List.{List, [], ◌∷◌, flatten}
 use native.Mathlib.Omega.{arith}
 use lib.ListN.{length, length-append, length-map, replicate, length-replicate}
@@ -82,11 +82,6 @@ judged_as_given impl names s = refl
 judged_as_given with_solver names s = refl
 judged_as_given with_input names s = refl
 
--- ---- a test and what follows it: done exactly if the test refuses nothing and what follows is done
-unrefused : (o : Option Refusal) (x : Out Folded) (f : Folded) → o ≡ none → x ≡ done f → unless_refused o x ≡ done f
-unrefused none x f e g = g
-unrefused (some r) x f e g = let z : ◌≡◌ {A = ℕ} 0 1 = cc in let o : ⊥ = omega arith in absurd o
-
 -- ---- every stage of an accepted call
 pub record Passed (limits : Limits) (entry : Entry) (call : Call) (a : Accepted) : Type 0 where
   pub sections : Sections
@@ -147,7 +142,7 @@ module _ (limits : Limits) (entry : Entry) (call : Call) where
       ∙ bind_done (cut limits call.words) _ s p.words_cut
       ∙ bind_done (names_of limits call.names) _ p.names p.names_cut
       ∙ bind_done (judge_room (need_of s) call.result_room call.scratch_room) _ tt (enough_room (need_of s) call.result_room call.scratch_room p.result-room p.scratch-room)
-      ∙ bind_done (run (length p.names) s.rows m how) _ a.folded (unrefused (check (length p.names) s.rows m) (fold m how) a.folded c f)
+      ∙ bind_done (run (length p.names) s.rows m how) _ a.folded (ap₂ (λ (o : Option Refusal) (x : Out Folded). unless_refused o x) c f)
       ∙ ap₂ (λ (h : Mode) (m : Model). done (record { how = h; model = m; folded = a.folded })) p.how_is p.model_is
 
 -- ---- the result fits

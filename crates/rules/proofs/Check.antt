@@ -42,17 +42,14 @@ pub five-holds : (at : ℕ → Node) (nd : Node) → All (λ x. may_serve (at x)
 five-holds at nd h g = ap (λ b. b && all_true (sorted_as at nd.kind nd)) (every_holds (λ x. may_serve (at x)) (operands nd) h) ∙ all_hold (sorted_as at nd.kind nd) g
 
 -- ---- refusals
-some≢none : {A B : Type 0} (x : A) → some x ≡ none → B
-some≢none x e = let z : ◌≡◌ {A = ℕ} 0 1 = cc in let o : ⊥ = omega arith in absurd o
-
 faultless : (os : List (Option Refusal)) → first_of os ≡ none → All (λ o. o ≡ none) os
 faultless [] e = tt
 faultless (none ∷ os) e = (refl, faultless os e)
-faultless (some r ∷ os) e = some≢none r e
+faultless (some r ∷ os) e = cc
 
 held : (b : Bool) (r s p : ℕ) → unless b r s p ≡ none → b ≡ true
 held true r s p e = refl
-held false r s p e = some≢none _ e
+held false r s p e = cc
 
 -- ---- every node
 module _ (names : ℕ) (t : List Node) where

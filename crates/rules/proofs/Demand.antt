@@ -3,7 +3,6 @@
 -- Assumes nothing.
 use Prim.Native.Nat.{ℕ, ◌+◌, ◌<◌}
 use mathlib.Core.Path.{◌≡◌, refl, sym, ap, ap₂, ◌∙◌, subst}
-use mathlib.Core.Bool.{cond}
 use mathlib.Core.Option.{Option, none, some}
 use mathlib.Core.List.{List, [], ◌∷◌, map}
 use native.Mathlib.Omega.{arith}
@@ -12,7 +11,7 @@ use borrow.Author.Tests.{eq-eqb, ne_eqb, lt-ltb, le-ltb}
 use Rattle.btor.specs.Operators.{Reading, rust, standard}
 use Rattle.rules.specs.Lists.{All}
 use Rattle.rules.specs.Refusal.{Refusal, Out, done, unless_refused}
-use Rattle.rules.specs.Table.{Kind, Const, Read, Write, Word, Ult, Ext, Ite, Eq, And, Or, Not, State, Next, Input, Bad, Node, node_at, operands_as, operands}
+use Rattle.rules.specs.Table.{Kind, Const, Read, Write, Word, Ult, Ext, Ite, Eq, And, Or, Not, State, Next, Input, Bad, Node, node_at, operands}
 use Rattle.rules.specs.Model.{Model, Mode, model_of}
 use Rattle.rules.specs.Check.{check}
 use Rattle.rules.specs.Legal.{AllLegal, Sequential, WellFormed, Accepted, AcceptedRun}
@@ -25,7 +24,7 @@ use Rattle.rules.specs.Laws.{RowKeeps, OperandsWorth, OperandsKept}
 use Rattle.rules.specs.Fine.{Strict}
 use Rattle.rules.proofs.Base.{If, all_map, is-kind}
 use Rattle.rules.proofs.Check.{accepted}
-use Rattle.rules.proofs.Legal.{state_ok}
+use Rattle.rules.proofs.Legal.{init-operand, state_ok}
 use Rattle.rules.proofs.Values.{meaning-same, meaning-own, value-is, value-fits}
 use Rattle.rules.proofs.Triple.{Ok, Inv, MarkOk}
 use Rattle.rules.proofs.Whole.{Env, Gone, fold_ok}
@@ -132,10 +131,6 @@ map_same : (u w : ℕ → Value) (xs : List ℕ) → All (λ x. u x ≡ w x) xs 
 map_same u w [] h = refl
 map_same u w (x ∷ xs) h = ap₂ ◌∷◌ h.0 (map_same u w xs h.1)
 
--- a State's init is its one operand
-init-operand : (nd : Node) → nd.kind ≡ State → nd.b ≡ 1 → operands nd ≡ nd.a ∷ []
-init-operand nd e b = ap (λ K. operands_as K nd) e ∙ ap (λ q. cond q (nd.a ∷ []) []) (eq-eqb nd.b 1 b)
-
 module _ (m : Model) (how : Mode) (f : Folded) (wf : WellFormed m) (run : fold m how ≡ done f) (clean : f.state.passed ≡ 0)
     (α : ℕ → Value) (replies : RepliesHold how.reading m.table α f.state) (faithful : Faithful how.reading m.table m.sequentials f.state α) where
   given-worths : (k : ℕ) → k < length m.table
@@ -180,7 +175,7 @@ operands-kept m how f wf run clean replies α faithful =
 -- a run that is done was not refused, and its fold is done
 pub run-done : {A : Type 0} (o : Option Refusal) (x : Out A) (f : A) → unless_refused o x ≡ done f → (o ≡ none) × (x ≡ done f)
 run-done none x f e = (refl, e)
-run-done (some r) x f e = let z : ◌≡◌ {A = ℕ} 0 1 = cc in let o : ⊥ = omega arith in absurd o
+run-done (some r) x f e = cc
 
 pub accepted-run : AcceptedRun
 unfolding AcceptedRun Accepted run

@@ -167,7 +167,7 @@ module _ (how : Reading) (t : List Node) (legal : AllLegal t) (σ : St) (shape :
       by-drop false = d-fits
 
   worked-fits : (m k : ℕ) → k < m → k < length t → Fits (node_at t k).sort (worked k)
-  worked-fits zero k h l = let z : ⊥ = omega arith in absurd z
+  worked-fits zero k h l = absurd (omega arith)
   worked-fits (suc m) k h l =
       let below : (j : ℕ) → j < k → Fits (node_at t j).sort (worked j) = λ j i. worked-fits m j (omega arith) (omega arith) in
       subst (Fits (node_at t k).sort) (given-solves how t legal own own_same k l)

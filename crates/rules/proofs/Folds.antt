@@ -95,38 +95,31 @@ module _ (v : ℕ → Value) where
   -- ---- And and Or with zeros and ones
   module _ (s x y : ℕ) (cx cy : Option ℕ) (w : Value) (hx : ConstOk cx (v x)) (hy : ConstOk cy (v y))
       (nx : (v x ≡ number (num (v x))) × (num (v x) < 2 ^ width s)) (ny : (v y ≡ number (num (v y))) × (num (v y) < 2 ^ width s)) where
+    -- an operand that is the constant z: where g z is z it takes the node's place, and where g z is the other operand, that does
+    itself : (c : Option ℕ) (p : Value) (z : ℕ) → ConstOk c p → is_const c z ≡ true → (g : ℕ → ℕ) → g z ≡ z → number (g (num p)) ≡ w → p ≡ w
+    itself c p z h i g q e = let k = is_const_ok c p z h i in k ∙ ap number (sym q) ∙ ap (λ r. number (g (num r))) (sym k) ∙ e
+
+    other : (c : Option ℕ) (p : Value) (z : ℕ) → ConstOk c p → is_const c z ≡ true → (g : ℕ → ℕ) (o : Value) → o ≡ number (num o) → g z ≡ num o → number (g (num p)) ≡ w → o ≡ w
+    other c p z h i g o n q e = n ∙ ap number (sym q) ∙ ap (λ r. number (g (num r))) (sym (is_const_ok c p z h i)) ∙ e
+
     pub fold_and_ok : number (bit_and (num (v x)) (num (v y))) ≡ w → FoldOk w (fold_and s x y cx cy)
     fold_and_ok e =
-        cases_cond (FoldOk w) (is_const cx 0)
-        (λ h. let z = is_const_ok cx (v x) 0 hx h in
-        z ∙ ap number (sym (and_zero_l (num (v y)))) ∙ ap (λ p. number (bit_and (num p) (num (v y)))) (sym z) ∙ e)
-        (λ _. cases_cond (FoldOk w) (is_const cy 0)
-        (λ h. let z = is_const_ok cy (v y) 0 hy h in
-        z ∙ ap number (sym (and_zero_r (num (v x)))) ∙ ap (λ p. number (bit_and (num (v x)) (num p))) (sym z) ∙ e)
-        (λ _. cases_cond (FoldOk w) (is_const cx (ones s))
-        (λ h. let z = is_const_ok cx (v x) (ones s) hx h in
-        ny.0 ∙ ap number (sym (and-ones s (num (v y)) ny.1)) ∙ ap number (and_comm (num (v y)) (ones s))
-        ∙ ap (λ p. number (bit_and (num p) (num (v y)))) (sym z) ∙ e)
-        (λ _. cases_cond (FoldOk w) (is_const cy (ones s))
-        (λ h. let z = is_const_ok cy (v y) (ones s) hy h in
-        nx.0 ∙ ap number (sym (and-ones s (num (v x)) nx.1)) ∙ ap (λ p. number (bit_and (num (v x)) (num p))) (sym z) ∙ e)
+        let l : ℕ → ℕ = λ p. bit_and p (num (v y)) in
+        let r : ℕ → ℕ = bit_and (num (v x)) in
+        cases_cond (FoldOk w) (is_const cx 0) (λ h. itself cx (v x) 0 hx h l (and_zero_l (num (v y))) e)
+        (λ _. cases_cond (FoldOk w) (is_const cy 0) (λ h. itself cy (v y) 0 hy h r (and_zero_r (num (v x))) e)
+        (λ _. cases_cond (FoldOk w) (is_const cx (ones s)) (λ h. other cx (v x) (ones s) hx h l (v y) ny.0 (and_comm (ones s) (num (v y)) ∙ and-ones s (num (v y)) ny.1) e)
+        (λ _. cases_cond (FoldOk w) (is_const cy (ones s)) (λ h. other cy (v y) (ones s) hy h r (v x) nx.0 (and-ones s (num (v x)) nx.1) e)
         (λ _. fold_words_ok s bit_and cx cy (v x) (v y) w hx hy e))))
 
     pub fold_or_ok : number (bit_or (num (v x)) (num (v y))) ≡ w → FoldOk w (fold_or s x y cx cy)
     fold_or_ok e =
-        cases_cond (FoldOk w) (is_const cx 0)
-        (λ h. let z = is_const_ok cx (v x) 0 hx h in
-        ny.0 ∙ ap number (sym (or_zero_l (num (v y)))) ∙ ap (λ p. number (bit_or (num p) (num (v y)))) (sym z) ∙ e)
-        (λ _. cases_cond (FoldOk w) (is_const cy 0)
-        (λ h. let z = is_const_ok cy (v y) 0 hy h in
-        nx.0 ∙ ap number (sym (or_zero_r (num (v x)))) ∙ ap (λ p. number (bit_or (num (v x)) (num p))) (sym z) ∙ e)
-        (λ _. cases_cond (FoldOk w) (is_const cx (ones s))
-        (λ h. let z = is_const_ok cx (v x) (ones s) hx h in
-        z ∙ ap number (sym (or-ones s (num (v y)) ny.1)) ∙ ap number (or_comm (num (v y)) (ones s))
-        ∙ ap (λ p. number (bit_or (num p) (num (v y)))) (sym z) ∙ e)
-        (λ _. cases_cond (FoldOk w) (is_const cy (ones s))
-        (λ h. let z = is_const_ok cy (v y) (ones s) hy h in
-        z ∙ ap number (sym (or-ones s (num (v x)) nx.1)) ∙ ap (λ p. number (bit_or (num (v x)) (num p))) (sym z) ∙ e)
+        let l : ℕ → ℕ = λ p. bit_or p (num (v y)) in
+        let r : ℕ → ℕ = bit_or (num (v x)) in
+        cases_cond (FoldOk w) (is_const cx 0) (λ h. other cx (v x) 0 hx h l (v y) ny.0 (or_zero_l (num (v y))) e)
+        (λ _. cases_cond (FoldOk w) (is_const cy 0) (λ h. other cy (v y) 0 hy h r (v x) nx.0 (or_zero_r (num (v x))) e)
+        (λ _. cases_cond (FoldOk w) (is_const cx (ones s)) (λ h. itself cx (v x) (ones s) hx h l (or_comm (ones s) (num (v y)) ∙ or-ones s (num (v y)) ny.1) e)
+        (λ _. cases_cond (FoldOk w) (is_const cy (ones s)) (λ h. itself cy (v y) (ones s) hy h r (or-ones s (num (v x)) nx.1) e)
         (λ _. fold_words_ok s bit_or cx cy (v x) (v y) w hx hy e))))
 
   -- ---- the walk down the writes finds what the memory holds, if it passed no unsettled write
@@ -139,7 +132,7 @@ module _ (v : ℕ → Value) where
 
   past_unsettled : (o : Option ℕ) (u : ℕ) (m : Value) (x : ℕ) → FoundValue o (u + 1) m x
   past_unsettled none u m x = tt
-  past_unsettled (some y) u m x = λ e. let z : ⊥ = omega arith in absurd z
+  past_unsettled (some y) u m x = λ e. absurd (omega arith)
 
   past_settled : (o : Option ℕ) (u : ℕ) (m m' : Value) (x : ℕ) → mem m' x ≡ mem m x → FoundValue o u m' x → FoundValue o (u + 0) m x
   past_settled none u m m' x e h = tt

@@ -90,7 +90,7 @@ module _ (t : List Node) (ways : Ways) where
 
     more : (f k : ℕ) (σ : St) → k < f → k < length t → visit t ways (suc f) σ k ≡ visit t ways f σ k
     unfolding visit
-    more zero k σ h l = let z : ⊥ = omega arith in absurd z
+    more zero k σ h l = absurd (omega arith)
     more (suc f) k σ h l =
         marked-same (visit t ways (suc f)) (visit t ways f) (σ.mark k) σ k l (λ σ₁ j i. more f j σ₁ (omega arith) (omega arith))
 

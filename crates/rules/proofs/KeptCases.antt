@@ -21,10 +21,10 @@ use Rattle.rules.specs.Whole.{ways_of, judge_sequentials, visit_all, judge_bads,
 use Rattle.rules.specs.Limits.{house}
 use Rattle.rules.specs.Sections.{rows_words, encode, cut_section, rows_of, cut_six, cut}
 use Rattle.rules.specs.Names.{cut_names, counted_names, names_of, starts_with}
-use Rattle.rules.specs.Call.{impl, judge_mode, judge_room, model_from, brought, judge_and_fold, judge_cut, outcome, Judged, judged}
+use Rattle.rules.specs.Call.{impl, judge_mode, judge_room, model_from, brought, judge_and_fold, judge_cut, outcome, judged}
 use Rattle.rules.specs.Cases.{mode0}
 use Rattle.rules.specs.KeptState.{begun, tested_visit, tested_all, StatesStay, KeptStateOfCall, Fails, summed, TableNeeded, taking_rows, taking, SixNeeded, twice_rows, twice, SevenNeeded, kept_call, KeptNext, KeptWorked}
-use Rattle.rules.proofs.Base.{kept≢replaced}
+use Rattle.rules.proofs.Base.{of_done}
 use Rattle.rules.proofs.Check.{all-legal}
 use Rattle.rules.proofs.Sections.{never}
 use Rattle.rules.proofs.KeptState.{kept_state_of_call}
@@ -60,7 +60,7 @@ module _ (m : Model) (k : ℕ) where
   unfolding visit_all
   fails r e v q t w d l x =
       record {
-        visited = λ h. kept≢replaced r _ (h k (begun m).0 _ (record { before = []; after = []; listed = e; walked = refl }) v).0 q;
+        visited = λ h. let z = (h k (begun m).0 _ (record { before = []; after = []; listed = e; walked = refl }) v).0 in cc;
         tested = λ h. never walking _ _ (sym h ∙ t) w;
         ended = λ h. (subst (All (λ k. (r : ℕ) → folding.state.mark (node_at m.table k).a ≢ replaced r)) l (h folding d)).0 r x;
         refused = t;
@@ -116,8 +116,8 @@ came = tt
 
 pub kept-worked : KeptWorked
 unfolding KeptWorked KeptStateOfCall
-kept-worked = (worked, go (judged house kept_call) refl came)
-  where
-    go : (o : Out Judged) → judged house kept_call ≡ o → OfDone (λ j. Unit) o → OfDone (λ j. StatesStay (model_from j.names (brought impl j.sections)) j.how) o
-    go (refused r) e h = h
-    go (done j) e h = kept_state_of_call house impl kept_call j e
+kept-worked = (
+  worked,
+  of_done (λ j. Unit) (OfDone (λ j. StatesStay (model_from j.names (brought impl j.sections)) j.how)) (judged house kept_call)
+      (λ j e h. kept_state_of_call house impl kept_call j e) came,
+)

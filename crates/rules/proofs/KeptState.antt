@@ -62,7 +62,7 @@ module _ (t : List Node) where
       record {
         still = λ σ σ' e i h r q. ap (λ (f : ℕ → Mark). f i) (sym e) ∙ q;
         both = λ σ σ₁ σ₂ x y i h r q. x i h r (y i h r q);
-        keeps = λ σ k i h r q. marked σ.mark k i r kept (λ _ z. let o : ◌≡◌ {A = ℕ} 0 1 = cc in omega arith) q;
+        keeps = λ σ k i h r q. marked σ.mark k i r kept (λ _ z. cc) q;
         replaces = λ σ k s n i h r q. marked σ.mark k i r (replaced s) (λ e _. no (sym n ∙ ap (λ j. has_init (node_at t j)) (sym e) ∙ h)) q;
         memory_input = tt;
         wide_input = tt;
@@ -102,7 +102,7 @@ module _ (t : List Node) where
       let i : has_init nd ≡ true = ap (λ K. eqb (kind_code K) 19 && eqb nd.b 1) (state_ok t s legal h.0).state ∙ eq-eqb nd.b 1 h.0.init in
       let z = stay (node_at t s).a i r q in
       let f = h.1 in
-      let o : ◌≡◌ {A = ℕ} 0 1 = cc in omega arith
+      cc
 
   module _ (ways : Ways) where
     -- ---- a State with an init that is not replaced stays, and stands for itself
@@ -219,7 +219,7 @@ module _ (m : Model) (how : Mode) (legal : AllLegal m.table) (six : All (Sequent
   itself σ k x h = go k refl
     where
       go : (f : ℕ) → k ≡ f → If (Itself (node_at t k).a) (visit t ways f σ (node_at t k).a)
-      go zero e = let z : ⊥ = omega (arith, (legal_as t k Next (node_at t k) h.0.next (legal k h.0.inside)).before.0, e) in absurd z
+      go zero e = absurd (omega (arith, (legal_as t k Next (node_at t k) h.0.next (legal k h.0.inside)).before.0, e))
       go (suc f) e = stands t ways f σ (node_at t k).a (state_ok t k legal h.0).state h.0.init (not_replaced t legal (begun m).0 σ x k h)
 
   visited : (k : ℕ) (σ : St) (p : St × ℕ) → ComesTo m how k σ → visit t ways k σ (node_at t k).a ≡ done p → Itself (node_at t k).a p

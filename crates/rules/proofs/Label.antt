@@ -22,18 +22,18 @@ use Rattle.rules.proofs.Names.{name-at}
 -- ---- a place in a list, or past it
 pub at_in : {A : Type 0} (xs : List A) (k : ℕ) (d : A) → k < length xs → at xs k ≡ some (get_or xs k d)
 unfolding at
-at_in [] k d h = let o : ⊥ = omega arith in absurd o
+at_in [] k d h = absurd (omega arith)
 at_in (x ∷ xs) zero d h = refl
 at_in (x ∷ xs) (suc k) d h = at_in xs k d (omega arith)
 
 pub at-past : {A : Type 0} (xs : List A) (k : ℕ) → length xs ≤ k → at xs k ≡ none
 unfolding at
 at-past [] k h = refl
-at-past (x ∷ xs) zero h = let o : ⊥ = omega arith in absurd o
+at-past (x ∷ xs) zero h = absurd (omega arith)
 at-past (x ∷ xs) (suc k) h = at-past xs k (omega arith)
 
 pub named_in : (names : List (List ℕ)) (k : ℕ) → 0 < k → k ≤ length names → named names k ≡ some (name_of names k)
-named_in names zero p h = let o : ⊥ = omega arith in absurd o
+named_in names zero p h = absurd (omega arith)
 named_in names (suc k) p h = at_in names k [] (omega arith)
 
 pub named_past : (names : List (List ℕ)) (k : ℕ) → length names < k → named names k ≡ none

@@ -21,7 +21,7 @@ pub record LegalAs (t : List Node) (k : ℕ) (K : Kind) (nd : Node) : Type 0 whe
   pub sorts : All (λ b. b ≡ true) (sorted_as (node_at t) K nd)
 
 pub legal_as : (t : List Node) (k : ℕ) (K : Kind) (nd : Node) → nd.kind ≡ K → Legal t k nd → LegalAs t k K nd
-legal_as t k K nd e g = subst (λ J. LegalAs t k J nd) e (record { before = g.before; serve = g.serve; sorts = g.sorts })
+legal_as t k K nd e g = subst (λ J. LegalAs t k J nd) e (assumption g)
 
 -- a State with an init: the init stands before it, may serve as an operand, and has its sort
 pub record InitOk (t : List Node) (k : ℕ) (nd : Node) : Type 0 where

@@ -88,7 +88,7 @@ module _ (limits : Limits) where
 pub starts-with : (ps bs : List ℕ) → (starts_with ps bs ≡ true) ↔ (take (length ps) bs ≡ ps)
 unfolding starts_with
 starts-with [] bs = ((λ e. refl), λ e. refl)
-starts-with (p ∷ ps) [] = ((λ e. no e), λ e. let z : ◌≡◌ {A = ℕ} 0 1 = cc in let o : ⊥ = omega arith in absurd o)
+starts-with (p ∷ ps) [] = ((λ e. no e), λ e. cc)
 starts-with (p ∷ ps) (b ∷ bs) =
     let r = starts-with ps bs in (
       (λ e. let q = and_both (eqb b p) (starts_with ps bs) e in ap₂ (λ x xs. x ∷ xs) (eqb-true b p q.0) (r.0 q.1)),

@@ -1,6 +1,7 @@
 -- The names bytes: names within the limits are what is cut from their bytes, and name k stands where its length byte says.
 -- By recursion over how many names are left, the two tests of a name by cases.
 --     names_back, names_done   cutting undoes encoding, and what is cut encodes to the bytes
+--     size_here, bytes_here, after_here   a name at its place
 --     name-at            name k as a part of the bytes
 -- Assumes nothing.
 use Prim.Native.Nat.{ℕ, zero, suc, ◌+◌, ◌-◌, ◌*◌, ◌<◌, ◌≤◌}
@@ -19,6 +20,17 @@ use Rattle.rules.specs.Limits.{Limits}
 use Rattle.rules.specs.Sections.{none_left}
 use Rattle.rules.specs.Names.{cut_names, counted_names, names_of, name_of, length_place, name_size, name_start, sized_names, name_bytes, NamesWithin}
 use Rattle.rules.proofs.Sections.{bind_done, never, same-done, through}
+
+-- ---- a name at its place: its length byte, its bytes, and what follows
+module _ (bs : List ℕ) (at : ℕ) (name more : List ℕ) (e : drop at bs ≡ length name ∷ name ++ more) where
+  pub size_here : get_or bs at 0 ≡ length name
+  size_here = ap (λ i. get_or bs i 0) (sym (add-zero at)) ∙ sym (get_or-drop at bs 0 0) ∙ ap (λ l. get_or l 0 0) e
+
+  pub bytes_here : drop (at + 1) bs ≡ name ++ more
+  bytes_here = sym (drop-drop 1 at bs) ∙ ap (λ l. drop 1 l) e
+
+  pub after_here : drop (at + 1 + get_or bs at 0) bs ≡ more
+  after_here = sym (drop-drop (get_or bs at 0) (at + 1) bs) ∙ rw (bytes_here, size_here) (drop-append_seam name more)
 
 module _ (limits : Limits) where
   -- ---- one name more
@@ -138,16 +150,6 @@ module _ (limits : Limits) where
   names_done (low ∷ high ∷ bs) names e = let h = counted_names_done (low + 256 * high) bs names e in (sym h.0, h.1, h.2)
 
   -- ---- where name k stands
-  module _ (bs : List ℕ) (at : ℕ) (name more : List ℕ) (e : drop at bs ≡ length name ∷ name ++ more) where
-    size_here : get_or bs at 0 ≡ length name
-    size_here = ap (λ i. get_or bs i 0) (sym (add-zero at)) ∙ sym (get_or-drop at bs 0 0) ∙ ap (λ l. get_or l 0 0) e
-
-    bytes_here : drop (at + 1) bs ≡ name ++ more
-    bytes_here = sym (drop-drop 1 at bs) ∙ ap (λ l. drop 1 l) e
-
-    after_here : drop (at + 1 + get_or bs at 0) bs ≡ more
-    after_here = sym (drop-drop (get_or bs at 0) (at + 1) bs) ∙ rw (bytes_here, size_here) (drop-append_seam name more)
-
   walk : (names : List (List ℕ)) (bs : List ℕ) (at : ℕ) → drop at bs ≡ sized_names names → (k : ℕ) → k < length names
       → get_or names k [] ≡ take (get_or bs (length_place k bs at) 0) (drop (length_place k bs at + 1) bs)
   unfolding sized_names length_place

@@ -230,5 +230,5 @@ pub accepted-answer : (limits : Limits) (entry : Entry) (call : Call) → (answe
 accepted-answer limits entry call = go (outcome limits entry call) (outcome-numbered limits entry call)
   where
     go : (o : Out Accepted) → Numbered o → (answer_of o).number ≡ 0 → (a : Accepted) × (o ≡ done a)
-    go (refused r) h e = let z : ⊥ = omega (arith, reason-positive r.reason h, e) in absurd z
+    go (refused r) h e = absurd (omega (arith, reason-positive r.reason h, e))
     go (done a) h e = (a, refl)

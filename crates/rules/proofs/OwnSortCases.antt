@@ -27,33 +27,25 @@ use Rattle.rules.specs.Names.{cut_names, counted_names, names_of, starts_with}
 use Rattle.rules.specs.Call.{Entry, impl, with_solver, with_input, Accepted, judge_mode, judge_room, judge_and_fold, judge_cut, outcome}
 use Rattle.rules.specs.Laws.{MadeFor}
 use Rattle.rules.specs.OwnSort.{OwnSortsOfCall, EachSort, byte_call, ByteStays, Said, tight, ByteWorked, ByteCanFail, mixed_rows, FiveNeeded, unread, ThreeNeeded, listed_rows, SixNeeded}
-use Rattle.rules.proofs.Base.{kept≢replaced}
+use Rattle.rules.proofs.Base.{of_done}
 use Rattle.rules.proofs.Check.{all-legal}
 use Rattle.rules.proofs.OwnSort.{rows-given, own_sorts_of_call}
 
 pub each-sort : EachSort
 unfolding EachSort outcome judge_mode encode rows_words cut cut_six cut_section rows_of names_of counted_names cut_names judge_cut judge_room starts_with judge_and_fold run check check_nodes check_sequentials check_bads width ones compute fold fold_bads judge_bads judge_sequentials visit_all ask ask_or visit process settle finish finish_stay unary binary visit1 visit2 visit3 ite_on take_input forward result_words gather sum
-each-sort = ((refl, refl), ((refl, refl), ((refl, refl), ((refl, refl), ((refl, refl), ((refl, refl), ((refl, refl), ((refl, refl), tt))))))))
+each-sort = assumption refl
 
 -- ---- a byte that stays a byte
 worked : OfDone ByteStays (outcome house impl (byte_call 0)) × OfDone ByteStays (outcome house with_solver (byte_call 7)) × OfDone ByteStays (outcome tight with_input (byte_call 5))
 unfolding outcome judge_mode encode rows_words cut cut_six cut_section rows_of names_of counted_names cut_names judge_cut judge_room starts_with judge_and_fold run check check_nodes check_sequentials check_bads width ones fold fold_bads judge_bads judge_sequentials last_question visit_all ask ask_or visit process settle finish finish_stay unary binary visit1 visit2 ite_on take_input
-worked = (
-  record { count = refl; byte = refl; mark = refl; row = refl },
-  record { count = refl; byte = refl; mark = refl; row = refl },
-  record { count = refl; byte = refl; mark = refl; row = refl },
-)
+worked = assumption refl
 
 said : (limits : Limits) (entry : Entry) (mode : ℕ) → names_of limits (byte_call mode).names ≡ done ([] ∷ []) → OfDone ByteStays (outcome limits entry (byte_call mode))
     → OfDone Said (outcome limits entry (byte_call mode))
 unfolding OwnSortsOfCall
-said limits entry mode n = go (outcome limits entry (byte_call mode)) refl
-  where
-    go : (o : Out Accepted) → outcome limits entry (byte_call mode) ≡ o → OfDone ByteStays o → OfDone Said o
-    go (refused r) e h = h
-    go (done a) e h =
-        let s = own_sorts_of_call limits entry (byte_call mode) a ([] ∷ []) e n in
-        record { replacements = s.replacements; made = s.made; constants = s.constants; kept = s.kept; rows = s.rows }
+said limits entry mode n =
+    of_done ByteStays (OfDone Said) (outcome limits entry (byte_call mode))
+    (λ a e h. assumption (own_sorts_of_call limits entry (byte_call mode) a ([] ∷ []) e n))
 
 pub byte-worked : ByteWorked
 unfolding ByteWorked names_of counted_names cut_names
@@ -62,7 +54,7 @@ byte-worked =
 
 -- ---- each part failing
 rows-three : (names : ℕ) (rs : List Row) → All (λ r. rule3 names r ≡ true) rs → (k : ℕ) → k < length rs → rule3 names (row_at rs k) ≡ true
-rows-three names [] h k l = let o : ⊥ = omega arith in absurd o
+rows-three names [] h k l = absurd (omega arith)
 rows-three names (r ∷ rs) h zero l = h.0
 rows-three names (r ∷ rs) h (suc k) l = rows-three names rs h.1 k (omega arith)
 
@@ -75,7 +67,7 @@ record Marks (a : Accepted) : Type 0 where
 
 marked : OfDone Marks (outcome house impl (byte_call 0))
 unfolding outcome judge_mode encode rows_words cut cut_six cut_section rows_of names_of counted_names cut_names judge_cut judge_room starts_with judge_and_fold run check check_nodes check_sequentials check_bads width ones fold fold_bads judge_bads judge_sequentials visit_all ask ask_or visit process settle finish finish_stay unary binary visit1 visit2 ite_on take_input
-marked = record { nodes = refl; made = refl; by_and = refl; others = (refl, (refl, (refl, (refl, (refl, tt))))) }
+marked = assumption refl
 
 made_fails : (o : Out Accepted) → OfDone Marks o → OfDone (λ a. MadeFor a.model.table (add_const a.folded.state 9 11 1) → ⊥) o
 made_fails (refused r) m = m
@@ -85,12 +77,12 @@ made_fails (done a) m = λ h. let w = h 9 (omega (arith, m.nodes)) (omega (arith
     mark = a.folded.state.mark
 
     go : (k : ℕ) → k < 6 → mark k ≡ replaced 9 → ⊥
-    go zero l q = kept≢replaced 9 (mark 0) m.others.0 q
-    go (suc zero) l q = kept≢replaced 9 (mark 1) m.others.1.0 q
-    go (suc (suc zero)) l q = let e = m.by_and in let z : ◌≡◌ {A = ℕ} 8 9 = cc in omega arith
-    go (suc (suc (suc zero))) l q = kept≢replaced 9 (mark 3) m.others.1.1.0 q
-    go (suc (suc (suc (suc zero)))) l q = kept≢replaced 9 (mark 4) m.others.1.1.1.0 q
-    go (suc (suc (suc (suc (suc zero))))) l q = kept≢replaced 9 (mark 5) m.others.1.1.1.1.0 q
+    go zero l q = let e = m.others.0 in cc
+    go (suc zero) l q = let e = m.others.1.0 in cc
+    go (suc (suc zero)) l q = let e = m.by_and in cc
+    go (suc (suc (suc zero))) l q = let e = m.others.1.1.0 in cc
+    go (suc (suc (suc (suc zero)))) l q = let e = m.others.1.1.1.0 in cc
+    go (suc (suc (suc (suc (suc zero))))) l q = let e = m.others.1.1.1.1.0 in cc
     go (suc (suc (suc (suc (suc (suc k)))))) l q = omega arith
 
 pub byte_can_fail : ByteCanFail
@@ -119,7 +111,7 @@ pub five_needed : FiveNeeded
 unfolding FiveNeeded check check_nodes check_sequentials check_bads fold fold_bads judge_bads judge_sequentials visit_all ask ask_or visit process settle finish finish_stay unary binary visit1 visit2 take_input width ones
 five_needed = (
   refl,
-  rows-given 1 mixed_rows (rows-three 1 mixed_rows (refl, (refl, (refl, (refl, (refl, (refl, tt))))))),
+  rows-given 1 mixed_rows (rows-three 1 mixed_rows (assumption refl)),
   ((λ h. eqb-false 12 11 refl (h 2 0 (lit< tt) refl)), λ h. false≢true (h 2 (lit< tt)).five),
 )
 
@@ -129,8 +121,8 @@ three_needed = (refl, record { nodes = only_row; sequentials = tt; once = tt; in
   where
     only_row : AllLegal unread.table
     only_row zero l = record { known = refl; before = tt; serve = tt; sorts = tt }
-    only_row (suc k) l = let o : ⊥ = omega arith in absurd o
+    only_row (suc k) l = absurd (omega arith)
 
 pub six_needed : SixNeeded
 unfolding SixNeeded check check_nodes check_sequentials check_bads fold fold_bads judge_bads judge_sequentials visit_all ask ask_or visit process settle finish finish_stay unary binary visit1 visit2 take_input width ones
-six_needed = (refl, all-legal 0 listed_rows refl, rows-given 1 listed_rows (rows-three 1 listed_rows (refl, (refl, (refl, tt)))), λ h. eqb-false 11 2 refl (h 1 0 (lit< tt) refl))
+six_needed = (refl, all-legal 0 listed_rows refl, rows-given 1 listed_rows (rows-three 1 listed_rows (assumption refl)), λ h. eqb-false 11 2 refl (h 1 0 (lit< tt) refl))

@@ -25,7 +25,7 @@ use Rattle.rules.proofs.Laws.{the_shape, row_keeps, operands-below}
 
 -- a rewritten row is the given one but for its operands
 but_operands : (nd g : Node) → SameNode nd g → SameButOperands nd g
-but_operands nd g s = record { kind = s.kind; sort = s.sort; name = s.name; number = s.number; from = s.from; init = s.init; unused = s.unused }
+but_operands nd g s = assumption s
 
 -- ---- rule 3 of a node's row
 abbrev others : ℕ → Node → List Bool

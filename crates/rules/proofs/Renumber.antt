@@ -185,7 +185,7 @@ module _ (rows : ℕ → Node) (f : ℕ → ℕ) (Dom : ℕ → Type 0) (down : 
   -- there is one solution at most
   module _ (how : Reading) (α u w : ℕ → Value) (su : Solves how rows α Dom u) (sw : Solves how rows α Dom w) where
     agree : (n k : ℕ) → Dom k → rank k < n → u k ≡ w k
-    agree zero k d h = let z : ⊥ = omega arith in absurd z
+    agree zero k d h = absurd (omega arith)
     agree (suc n) k d h =
         sym (su k d)
         ∙ meaning-same how (rows k).kind (rows k) u w (α k)
@@ -271,14 +271,14 @@ first_rows : (k : ℕ) → k < 3 → node_at constant_first (to_first k) ≡ ren
 first_rows zero l = refl
 first_rows (suc zero) l = refl
 first_rows (suc (suc zero)) l = refl
-first_rows (suc (suc (suc k))) l = let z : ⊥ = omega arith in absurd z
+first_rows (suc (suc (suc k))) l = absurd (omega arith)
 
 -- before their row, by the old numbers and by the new
 first-down : (f : ℕ → ℕ) → f 0 < f 2 → f 1 < f 2 → Down (node_at summed) f (λ k. k < 3)
 first-down f p q zero l = tt
 first-down f p q (suc zero) l = tt
 first-down f p q (suc (suc zero)) l = ((omega arith, inl p), ((omega arith, inl q), tt))
-first-down f p q (suc (suc (suc k))) l = let z : ⊥ = omega arith in absurd z
+first-down f p q (suc (suc (suc k))) l = absurd (omega arith)
 
 pub along-worked : AlongWorked
 unfolding AlongWorked ValuesAlong

@@ -16,7 +16,7 @@ use Rattle.rules.specs.Whole.{ways_of, trivial, drop_next, judge_sequentials, Ba
 use Rattle.rules.specs.Result.{node_words, const_words, mark_words, is_replaced, gather, question_words, result_words, size}
 use Rattle.rules.specs.Room.{SpendRule, RoomRule}
 use Rattle.btor.proofs.Agreement.{cases}
-use Rattle.rules.proofs.Base.{If, if-bind, if-map, if-always}
+use Rattle.rules.proofs.Base.{If, if-bind, if-after, if-map}
 use Rattle.rules.proofs.Budget.{unpaid-all}
 use Rattle.rules.proofs.Walked.{folded}
 
@@ -48,14 +48,16 @@ module _ (t : List Node) (ways : Ways) (solver terminate : Bool) (section : ℕ)
   noted-length stay b r n h = omega arith
   noted-length drop b r n h = omega arith
 
-  judged-length : (place : ℕ) (σ : St) (bs : List ℕ) → If (λ r. length r.stay ≤ length bs) (judge_bads t ways solver terminate section place σ bs)
+  abbrev Fewer : ℕ → Bads → Type 0
+  Fewer n r = length r.stay ≤ n
+
+  judged-length : (place : ℕ) (σ : St) (bs : List ℕ) → If (Fewer (length bs)) (judge_bads t ways solver terminate section place σ bs)
   unfolding judge_bads
   judged-length place σ [] = omega arith
   judged-length place σ (b ∷ bs) =
-      if-bind (λ p. Unit {0}) (λ r. length r.stay ≤ suc (length bs)) (visit_top t ways σ b) _ (if-always (λ p. Unit {0}) (visit_top t ways σ b) (λ p. tt))
-      (λ p _. if-bind (λ q. Unit {0}) (λ r. length r.stay ≤ suc (length bs)) (judge_bad t ways solver terminate section place p.0 (p.0.rows b).a (const_of p.0.rows (p.0.rows b).a)) _
-      (if-always (λ q. Unit {0}) (judge_bad t ways solver terminate section place p.0 (p.0.rows b).a (const_of p.0.rows (p.0.rows b).a)) (λ q. tt))
-      (λ q _. if-bind (λ r. length r.stay ≤ length bs) (λ r. length r.stay ≤ suc (length bs)) (judge_bads t ways solver terminate section (suc place) q.0 bs) _ (judged-length (suc place) q.0 bs)
+      if-after (Fewer (suc (length bs))) (visit_top t ways σ b) _
+      (λ p. if-after (Fewer (suc (length bs))) (judge_bad t ways solver terminate section place p.0 (p.0.rows b).a (const_of p.0.rows (p.0.rows b).a)) _
+      (λ q. if-bind (Fewer (length bs)) (Fewer (suc (length bs))) (judge_bads t ways solver terminate section (suc place) q.0 bs) _ (judged-length (suc place) q.0 bs)
       (λ r h. noted-length q.1 b r (length bs) h)))
 
 module _ (m : Model) (how : Mode) where
@@ -69,8 +71,7 @@ module _ (m : Model) (how : Mode) where
   unfolding fold_bads
   fold_bads-length true σ seqs =
       if-bind (λ r. length r.stay ≤ length m.initial) (Short seqs) (bads m how false true 3 σ m.initial) _ (bads-length false true 3 σ m.initial)
-      (λ i h. if-bind (λ p. Unit {0}) (Short seqs) (last_question m how i.after i.stay) _ (if-always (λ p. Unit {0}) (last_question m how i.after i.stay) (λ p. tt))
-      (λ p _. (omega arith, h, omega arith)))
+      (λ i h. if-after (Short seqs) (last_question m how i.after i.stay) _ (λ p. (omega arith, h, omega arith)))
   fold_bads-length false σ seqs =
       if-bind (λ r. length r.stay ≤ length m.initial) (Short seqs) (bads m how true how.terminate 3 σ m.initial) _ (bads-length true how.terminate 3 σ m.initial)
       (λ i h. if-bind (λ r. length r.stay ≤ length m.later) (Short seqs) (bads m how true how.terminate 4 i.after m.later) _ (bads-length true how.terminate 4 i.after m.later)
@@ -82,9 +83,8 @@ module _ (m : Model) (how : Mode) where
       let t : List Node = m.table in
       let σ₀ : St = start t m.inputs m.replies in
       let j : St × List ℕ = judge_sequentials t σ₀ m.sequentials in
-      if-bind (λ σ. Unit {0}) (Short m.sequentials) (visit_all t (ways_of m how) j.0 j.1) _
-      (if-always (λ σ. Unit {0}) (visit_all t (ways_of m how) j.0 j.1) (λ σ. tt))
-      (λ σ _. if-map (Short j.1) (Short m.sequentials) (fold_bads m how how.one_query σ j.1)
+      if-after (Short m.sequentials) (visit_all t (ways_of m how) j.0 j.1) _
+      (λ σ. if-map (Short j.1) (Short m.sequentials) (fold_bads m how how.one_query σ j.1)
       (λ f h. (omega (arith, h.0, sequentials-length t σ₀ m.sequentials), h.1, h.2)) (fold_bads-length how.one_query σ j.1))
 
 pub sum_bound : (c : ℕ) (f : ℕ → ℕ) → ((i : ℕ) → f i ≤ 1) → sum c f ≤ c

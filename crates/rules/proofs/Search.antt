@@ -57,7 +57,7 @@ module _ (t : List Node) (how : Reading) (rows : ℕ → Node) (made : ℕ) (p :
   unfolding look_at sum
   look_at-looked m go g =
       cases (λ (r : Found). Bound m r.looked) (is Write (rows m))
-      (λ e. ((λ l. low e l), λ l. let o : ⊥ = omega (arith, p.inside m e) in absurd o))
+      (λ e. ((λ l. low e l), λ l. absurd (omega (arith, p.inside m e))))
       (λ _. ((λ l. omega arith), λ l. refl))
     where
       low : is Write (rows m) ≡ true → m < length t → (meet how x (rows m).c (const_of rows (rows m).b) (go (rows m).a)).looked ≤ wr m + sum m wr
@@ -116,7 +116,7 @@ module _ (t : List Node) (how : Reading) (rows : ℕ → Node) (made : ℕ) (p :
   lost-past : (f m : ℕ) → length t ≤ m → find how f rows x m ≡ lost
   unfolding find look_at
   lost-past zero m h = refl
-  lost-past (suc f) m h = cases (λ (r : Found). r ≡ lost) (is Write (rows m)) (λ e. let o : ⊥ = omega (arith, p.inside m e) in absurd o) (λ _. refl)
+  lost-past (suc f) m h = cases (λ (r : Found). r ≡ lost) (is Write (rows m)) (λ e. absurd (omega (arith, p.inside m e))) (λ _. refl)
 
   look_at-same : (m : ℕ) (u v : ℕ → Found) → (is Write (rows m) ≡ true → u (rows m).a ≡ v (rows m).a) → look_at how rows u x (rows m) ≡ look_at how rows v x (rows m)
   unfolding look_at
@@ -133,7 +133,7 @@ module _ (t : List Node) (how : Reading) (rows : ℕ → Node) (made : ℕ) (p :
   find-suc f m = refl
 
   find-more : (f m : ℕ) → (m < length t → m < f) → find how (suc f) rows x m ≡ find how f rows x m
-  find-more zero m h = inside-or-past _ m (length t) (λ l. let q = h l in let o : ⊥ = omega (arith, q) in absurd o) (λ l. lost-past 1 m l ∙ sym (lost-past 0 m l))
+  find-more zero m h = inside-or-past _ m (length t) (λ l. let q = h l in absurd (omega (arith, q))) (λ l. lost-past 1 m l ∙ sym (lost-past 0 m l))
   find-more (suc f) m h =
       find-suc (suc f) m
       ∙ look_at-same m (find how (suc f) rows x) (find how f rows x)

@@ -1,6 +1,6 @@
 -- Cutting the words: one section by its three outcomes, also at a place of a slice; and cutting is the inverse of encoding.
 -- By cases on the two tests of a section; the six sections by the first-refusal bind, one after the other.
---     over, short, whole   the outcomes of one section; over-at, short-at, whole-at say them at a place of a slice
+--     over, short, whole   the outcomes of one section; over_at, short_at, whole_at say them at a place of a slice
 --     cut-encode, encode-cut   sections within the limits are what is cut from their words, and from no others
 --     row-at             row k of the table as words of the slice
 -- Assumes nothing.
@@ -27,7 +27,7 @@ bind_done m f x e = ap (λ o. o >>= f) e
 
 -- nothing is both refused and done
 pub never : {A B : Type 0} (o : Out A) (r : Refusal) (x : A) → o ≡ refused r → o ≡ done x → B
-never o r x p q = let z : ◌≡◌ {A = ℕ} 0 1 = cc in let o : ⊥ = omega arith in absurd o
+never o r x p q = cc
 
 pub same-done : {A : Type 0} (x y : A) → done x ≡ done y → x ≡ y
 same-done x y e = cc
@@ -58,23 +58,23 @@ module _ (section limit width count : ℕ) (ws : List ℕ) where
   whole h l = rw (le-ltb limit count h, cut_section, le-ltb (length ws) (width * count) l)
 
 -- ---- a section that begins at a place of the words, as a function over a slice and an offset meets it
-pub nothing-at : (section limit width : ℕ) (ws : List ℕ) (at : ℕ) → length ws ≤ at → cut_section section limit width (drop at ws) ≡ refuse 1 section 0
-nothing-at section limit width ws at h = ap (λ l. cut_section section limit width l) (drop_of_length-le ws h) ∙ missing section limit width
+pub nothing_at : (section limit width : ℕ) (ws : List ℕ) (at : ℕ) → length ws ≤ at → cut_section section limit width (drop at ws) ≡ refuse 1 section 0
+nothing_at section limit width ws at h = ap (λ l. cut_section section limit width l) (drop_of_length-le ws h) ∙ missing section limit width
 
 module _ (section limit width : ℕ) (ws : List ℕ) (at : ℕ) (inside : at < length ws) where
   begins : cut_section section limit width (drop at ws) ≡ cut_section section limit width (get_or ws at 0 ∷ drop (suc at) ws)
   begins = ap (λ l. cut_section section limit width l) (drop-cons ws at 0 inside)
 
-  pub over-at : limit < get_or ws at 0 → cut_section section limit width (drop at ws) ≡ refuse 2 section 0
-  over-at h = begins ∙ over section limit width (get_or ws at 0) (drop (suc at) ws) h
+  pub over_at : limit < get_or ws at 0 → cut_section section limit width (drop at ws) ≡ refuse 2 section 0
+  over_at h = begins ∙ over section limit width (get_or ws at 0) (drop (suc at) ws) h
 
-  pub short-at : get_or ws at 0 ≤ limit → length ws < at + 1 + width * get_or ws at 0 → cut_section section limit width (drop at ws) ≡ refuse 1 section 0
-  short-at h l = begins ∙ short section limit width (get_or ws at 0) (drop (suc at) ws) h (omega (arith, length-drop (suc at) ws))
+  pub short_at : get_or ws at 0 ≤ limit → length ws < at + 1 + width * get_or ws at 0 → cut_section section limit width (drop at ws) ≡ refuse 1 section 0
+  short_at h l = begins ∙ short section limit width (get_or ws at 0) (drop (suc at) ws) h (omega (arith, length-drop (suc at) ws))
 
-  pub whole-at : get_or ws at 0 ≤ limit → at + 1 + width * get_or ws at 0 ≤ length ws
+  pub whole_at : get_or ws at 0 ≤ limit → at + 1 + width * get_or ws at 0 ≤ length ws
       → cut_section section limit width (drop at ws)
       ≡ done (record { count = get_or ws at 0; content = take (width * get_or ws at 0) (drop (at + 1) ws); rest = drop (at + 1 + width * get_or ws at 0) ws })
-  whole-at h l =
+  whole_at h l =
       begins ∙ whole section limit width (get_or ws at 0) (drop (suc at) ws) h (omega (arith, length-drop (suc at) ws))
       ∙ rw (← add-one at, drop-drop (width * get_or ws at 0) (at + 1) ws)
 
@@ -126,7 +126,7 @@ rows-length (suc n) ws = ap suc (rows-length n (drop row_width ws))
 -- row k of so many begins at word 6k
 pub row-of : (n : ℕ) (ws : List ℕ) (k : ℕ) (d : Row) → k < n → get_or (rows_of n ws) k d ≡ row_of (drop (row_width * k) ws)
 unfolding rows_of
-row-of zero ws k d h = let o : ⊥ = omega arith in absurd o
+row-of zero ws k d h = absurd (omega arith)
 row-of (suc n) ws zero d h = refl
 row-of (suc n) ws (suc k) d h =
     let e : row_width + row_width * k ≡ row_width * suc k = omega arith in
@@ -135,7 +135,7 @@ row-of (suc n) ws (suc k) d h =
 -- and it is read off words that go on after the rows
 pub row_in : (rs : List Row) (ws : List ℕ) (k : ℕ) (d : Row) → k < length rs → get_or rs k d ≡ row_of (drop (row_width * k) (rows_words rs ++ ws))
 unfolding rows_words
-row_in [] ws k d h = let o : ⊥ = omega arith in absurd o
+row_in [] ws k d h = absurd (omega arith)
 row_in (r ∷ rs) ws zero d h = refl
 row_in (r ∷ rs) ws (suc k) d h =
     let e : length (row_words r) + row_width * k ≡ row_width * suc k = omega arith in
@@ -143,18 +143,18 @@ row_in (r ∷ rs) ws (suc k) d h =
 
 -- six words are a row's
 six : (ws : List ℕ) → row_width ≤ length ws → row_words (row_of ws) ++ drop row_width ws ≡ ws
-six [] h = let o : ⊥ = omega arith in absurd o
-six (a ∷ []) h = let o : ⊥ = omega arith in absurd o
-six (a ∷ b ∷ []) h = let o : ⊥ = omega arith in absurd o
-six (a ∷ b ∷ c ∷ []) h = let o : ⊥ = omega arith in absurd o
-six (a ∷ b ∷ c ∷ d ∷ []) h = let o : ⊥ = omega arith in absurd o
-six (a ∷ b ∷ c ∷ d ∷ e ∷ []) h = let o : ⊥ = omega arith in absurd o
+six [] h = absurd (omega arith)
+six (a ∷ []) h = absurd (omega arith)
+six (a ∷ b ∷ []) h = absurd (omega arith)
+six (a ∷ b ∷ c ∷ []) h = absurd (omega arith)
+six (a ∷ b ∷ c ∷ d ∷ []) h = absurd (omega arith)
+six (a ∷ b ∷ c ∷ d ∷ e ∷ []) h = absurd (omega arith)
 six (a ∷ b ∷ c ∷ d ∷ e ∷ f ∷ ws) h = refl
 
 pub rows_words_lem : (n : ℕ) (ws : List ℕ) → length ws ≡ row_width * n → rows_words (rows_of n ws) ≡ ws
 unfolding rows_of rows_words
 rows_words_lem zero [] e = refl
-rows_words_lem zero (w ∷ ws) e = let o : ⊥ = omega arith in absurd o
+rows_words_lem zero (w ∷ ws) e = absurd (omega arith)
 rows_words_lem (suc n) ws e =
     ap (λ l. row_words (row_of ws) ++ l) (rows_words_lem n (drop row_width ws) (omega (arith, length-drop row_width ws))) ∙ six ws (omega arith)
 
@@ -269,3 +269,6 @@ row-at limits ws s e k d h =
 -- the words that are not refused are those of sections within the limits, and of one only
 pub cut_exact : (limits : Limits) (ws : List ℕ) (s : Sections) → (cut limits ws ≡ done s) ↔ ((encode s ≡ ws) × Within limits s)
 cut_exact limits ws s = ((λ e. encode-cut limits ws s e), λ h. ap (λ l. cut limits l) (sym h.0) ∙ cut-encode limits s h.1)
+
+-- what cutting one section out of a slice is proved by
+pub ruleset one_section = (nothing_at, over_at, short_at, whole_at)

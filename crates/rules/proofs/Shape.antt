@@ -22,7 +22,7 @@ use Rattle.rules.specs.Questions.{first_reply, other_replies}
 use Rattle.rules.specs.Tally.{reply_at, Apart}
 use Rattle.rules.specs.Laws.{MadeRow}
 use Rattle.rules.specs.Fine.{Below, Stands, Refs, kept_as, Alike, MarkStands, Shape, Used, Strict, Took, Books, Marked}
-use Rattle.rules.proofs.Base.{no, fresh≢replaced, inside-or-past, all_map, all_join, put_same, put_other, put_all, is-kind, kind-is}
+use Rattle.rules.proofs.Base.{no, inside-or-past, all_map, all_join, put_same, put_other, put_all, is-kind, kind-is}
 use Rattle.rules.proofs.Words.{width-bit}
 use Rattle.rules.proofs.Legal.{legal_as}
 use Rattle.rules.proofs.Start.{given-row, new_row}
@@ -40,7 +40,7 @@ module _ (t : List Node) where
   pub used-put : (mark : ℕ → Mark) (made k : ℕ) (m : Mark) → mark k ≡ fresh → Used t mark made → Used t (put mark k m) made
   used-put mark made k m e h r l u =
       let w = h r l u in
-      (w.0, w.1, put_other mark k m w.0 (λ z. fresh≢replaced r (mark k) e (ap mark (sym z) ∙ w.2)) ∙ w.2)
+      (w.0, w.1, put_other mark k m w.0 (λ z. let q = ap mark (sym z) ∙ w.2 in cc) ∙ w.2)
 
   -- and where one more constant is made, it is by that
   pub used-made : (mark : ℕ → Mark) (made k : ℕ) → k < length t → mark k ≡ fresh → Used t mark made → Used t (put mark k (replaced (length t + 2 + made))) (suc made)
@@ -50,7 +50,7 @@ module _ (t : List Node) where
 
   -- so none of them is fresh
   pub marked-fresh : (mark : ℕ → Mark) (k : ℕ) → mark k ≡ fresh → (hs : List Held) → Marked t mark hs → All (λ h. h.state ≢ k) hs
-  marked-fresh mark k e hs h = all_map (λ h. mark h.state ≡ replaced h.by) (λ h. h.state ≢ k) (λ h q z. fresh≢replaced h.by (mark k) e (ap mark (sym z) ∙ q)) hs h
+  marked-fresh mark k e hs h = all_map (λ h. mark h.state ≡ replaced h.by) (λ h. h.state ≢ k) (λ h q z. let r = ap mark (sym z) ∙ q in cc) hs h
 
   pub marked-put : (mark : ℕ → Mark) (k : ℕ) (m : Mark) (hs : List Held) → All (λ h. h.state ≢ k) hs → Marked t mark hs → Marked t (put mark k m) hs
   marked-put mark k m [] n h = tt
@@ -70,8 +70,8 @@ module _ (t : List Node) where
             false! = put_other rows k nd (length t) (λ e. omega arith) ∙ h.shares.false!;
             true! = put_other rows k nd (length t + 1) (λ e. omega arith) ∙ h.shares.true!;
           };
-          news = put_all (λ j (w : Node). length t ≤ j → j < length t + 2 + made → MadeRow w) rows k nd (λ i. let o : ⊥ = omega arith in absurd o) h.news;
-          past = put_all (λ j (w : Node). length t ≤ j → is Write w ≡ false) rows k nd (λ i. let o : ⊥ = omega arith in absurd o) h.past;
+          news = put_all (λ j (w : Node). length t ≤ j → j < length t + 2 + made → MadeRow w) rows k nd (λ i. absurd (omega arith)) h.news;
+          past = put_all (λ j (w : Node). length t ≤ j → is Write w ≡ false) rows k nd (λ i. absurd (omega arith)) h.past;
           alike = put_all (λ j (w : Node). j < length t → Alike w (node_at t j)) rows k nd (λ _. a) h.alike;
           refs = put_all (λ j (w : Node). j < length t → Refs t (put rows k nd) made j (operands w) (operands (node_at t j))) rows k nd
               (λ _. refs_map t rows (put rows k nd) made made k (stands-row t rows made k nd l) (operands nd) (operands (node_at t k)) r)
@@ -89,9 +89,9 @@ module _ (t : List Node) where
           };
           news = λ j i u. at j i u (eqb j r) refl;
           past = put_all (λ j (q : Node). length t ≤ j → is Write q ≡ false) rows r nd (λ _. ap (is Write) w.const) h.past;
-          alike = put_all (λ j (q : Node). j < length t → Alike q (node_at t j)) rows r nd (λ i. let o : ⊥ = omega arith in absurd o) h.alike;
+          alike = put_all (λ j (q : Node). j < length t → Alike q (node_at t j)) rows r nd (λ i. absurd (omega arith)) h.alike;
           refs = put_all (λ j (q : Node). j < length t → Refs t (put rows r nd) (suc made) j (operands q) (operands (node_at t j))) rows r nd
-              (λ i. let o : ⊥ = omega arith in absurd o)
+              (λ i. absurd (omega arith))
               (λ j i. refs_map t rows (put rows r nd) made (suc made) j (stands_const t rows made nd) (operands (rows j)) (operands (node_at t j)) (h.refs j i));
           marks = λ j i. mark-map (put rows r nd) (suc made) j (stands_const t rows made nd) (mark j) (h.marks j i);
         }
@@ -101,15 +101,7 @@ module _ (t : List Node) where
         at j i u false e = let z = borrow.Author.Tests.eqb-false j (length t + 2 + made) e in h.news j i (omega (arith, z))
 
     pub shape_mark : (k : ℕ) (m : Mark) → MarkStands t rows made k m → Shape t rows made (put mark k m)
-    shape_mark k m g =
-        record {
-          shares = h.shares;
-          news = h.news;
-          past = h.past;
-          alike = h.alike;
-          refs = h.refs;
-          marks = put_all (λ j x. j < length t → MarkStands t rows made j x) mark k m (λ _. g) h.marks;
-        }
+    shape_mark k m g = assumption (h, put_all (λ j x. j < length t → MarkStands t rows made j x) mark k m (λ _. g) h.marks)
 
     -- ---- what a shape says
     -- what stands for a node has its sort, and serves
@@ -177,7 +169,7 @@ module _ (t : List Node) where
       row : (i : ℕ) → i < 2 → MadeRow (get_or (constant 1 0 ∷ constant 1 1 ∷ []) i unknown)
       row zero l = bit_row 0 (omega arith)
       row (suc zero) l = bit_row 1 (omega arith)
-      row (suc (suc i)) l = let o : ⊥ = omega arith in absurd o
+      row (suc (suc i)) l = absurd (omega arith)
 
       quiet : (i : ℕ) → is Write (get_or (constant 1 0 ∷ constant 1 1 ∷ []) i unknown) ≡ false
       quiet zero = refl
@@ -245,23 +237,23 @@ module _ (t : List Node) where
         more = length-append held (h ∷ []) ∙ omega arith
 
         shorter : (i : ℕ) (l : List ℕ) → drop i l ≡ x ∷ xs → suc i ≤ length l
-        shorter zero [] q = let z : ◌≡◌ {A = ℕ} 0 1 = cc in let o : ⊥ = omega arith in absurd o
+        shorter zero [] q = cc
         shorter zero (y ∷ l) q = omega arith
-        shorter (suc i) [] q = let z : ◌≡◌ {A = ℕ} 0 1 = cc in let o : ⊥ = omega arith in absurd o
+        shorter (suc i) [] q = cc
         shorter (suc i) (y ∷ l) q = omega (arith, shorter i l q)
 
         tail : (i : ℕ) (l : List ℕ) → drop i l ≡ x ∷ xs → xs ≡ drop (suc i) l
-        tail zero [] q = let z : ◌≡◌ {A = ℕ} 0 1 = cc in let o : ⊥ = omega arith in absurd o
+        tail zero [] q = cc
         tail zero (y ∷ l) q = cc
-        tail (suc i) [] q = let z : ◌≡◌ {A = ℕ} 0 1 = cc in let o : ⊥ = omega arith in absurd o
+        tail (suc i) [] q = cc
         tail (suc i) (y ∷ l) q = tail i l q
 
     pub books_passed : (n : ℕ) → Strict how n → Books t how ins reps n inputs replies asked held
-    books_passed n e = record { clean = e; fewer = b.fewer; left = b.left; unasked = b.unasked; answers = b.answers; took = b.took; apart = b.apart }
+    books_passed n e = assumption (e, b)
 
 strict-start : (how : Reading) → Strict how 0
 strict-start rust = tt
 strict-start standard = refl
 
 pub start-books : (t : List Node) (how : Reading) (ins reps : List ℕ) → Books t how ins reps 0 ins reps [] []
-start-books t how ins reps = record { clean = strict-start how; fewer = omega arith; left = refl; unasked = refl; answers = λ i l. let o : ⊥ = omega arith in absurd o; took = tt; apart = tt }
+start-books t how ins reps = record { clean = strict-start how; fewer = omega arith; left = refl; unasked = refl; answers = λ i l. absurd (omega arith); took = tt; apart = tt }

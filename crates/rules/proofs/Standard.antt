@@ -129,7 +129,7 @@ module _ (t : List Node) (α : ℕ → Value) (legal : AllLegal t) (assigned : A
   u = value standard (node_at t) α
 
   only_below : (m k : ℕ) → k < m → k < length t → v k ≡ u k
-  only_below zero k h l = let z : ⊥ = omega arith in absurd z
+  only_below zero k h l = absurd (omega arith)
   only_below (suc m) k h l =
       let nd : Node = node_at t k in
       let below : (j : ℕ) → j < k → v j ≡ u j = λ j i. only_below m j (omega arith) (omega arith) in

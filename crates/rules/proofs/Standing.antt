@@ -40,7 +40,7 @@ module _ (t : List Node) where
 
   -- ---- a node stands for itself
   pub stands-itself : (rows : ℕ → Node) (made x : ℕ) → x < length t → may_serve (node_at t x) ≡ true → Stands t rows made x (node_at t x).sort
-  stands-itself rows made x l h = record { serve = λ _. h; sort = λ _. refl; new = λ i. let o : ⊥ = omega arith in absurd o }
+  stands-itself rows made x l h = record { serve = λ _. h; sort = λ _. refl; new = λ i. absurd (omega arith) }
 
   -- ---- what stands goes on standing when a row of the table is set, and when a constant is made
   pub stands-row : (rows : ℕ → Node) (made k : ℕ) (nd : Node) → k < length t → (x s : ℕ) → Stands t rows made x s → Stands t (put rows k nd) made x s
@@ -91,14 +91,14 @@ module _ (t : List Node) where
     shared_stands : (s r x : ℕ) → length t ≤ r → r < length t + 2 → rows r ≡ constant 1 x → s ≡ 1 → Stands t rows made r s
     shared_stands s r x l u e q =
         record {
-          serve = λ i. let o : ⊥ = omega arith in absurd o;
-          sort = λ i. let o : ⊥ = omega arith in absurd o;
+          serve = λ i. absurd (omega arith);
+          sort = λ i. absurd (omega arith);
           new = λ _. record { inside = omega arith; sort = ap (λ (w : Node). w.sort) e ∙ sym q };
         }
 
     pub shared_fold : (k s : ℕ) (b : Bool) → s ≡ 1 → FoldStands rows made k s (shared (length t) b)
-    shared_fold k s true q = ((λ i. let o : ⊥ = omega arith in absurd o), shared_stands s (length t + 1) 1 (omega arith) (omega arith) sh.true! q)
-    shared_fold k s false q = ((λ i. let o : ⊥ = omega arith in absurd o), shared_stands s (length t) 0 (omega arith) (omega arith) sh.false! q)
+    shared_fold k s true q = ((λ i. absurd (omega arith)), shared_stands s (length t + 1) 1 (omega arith) (omega arith) sh.true! q)
+    shared_fold k s false q = ((λ i. absurd (omega arith)), shared_stands s (length t) 0 (omega arith) (omega arith) sh.false! q)
 
     -- a new constant of the node's own sort
     pub own_fold : (k s y : ℕ) → known_sort s ≡ true → s ≢ 3 → y < 2 ^ width s → FoldStands rows made k s (make s y)

@@ -24,8 +24,8 @@ use Rattle.rules.specs.Memory.{Found, find, fold_found, passed_by}
 use Rattle.rules.specs.Questions.{quiet}
 use Rattle.rules.specs.Visit.{Ways, Branch, left, right, undecided, branch, new_number, settle, finish_stay, finish, visit1, visit2, visit3, unary, binary, forward, ite_on, take_input, process, visit_marked, visit}
 use Rattle.rules.specs.Tally.{writes, if_replaced}
-use Rattle.rules.specs.Room.{due}
-use Rattle.rules.specs.Fine.{Below, Stands, Ref, Refs, kept_as, Alike, MarkStands, Shape, Used, Strict, Books, fee, Fine}
+use Rattle.rules.specs.Room.{due, unpaid}
+use Rattle.rules.specs.Fine.{Below, Stands, Ref, Refs, Shares, kept_as, Alike, MarkStands, Shape, Used, Strict, Books, credit, fee, Fine}
 use Rattle.btor.proofs.Agreement.{cases}
 use Rattle.rules.proofs.Base.{mk, all_join, If, if-bind, put_same, put_other}
 use Rattle.rules.proofs.Standing.{FoldStands, ConstFits, stands-itself, stands-row, stands_const, own_fold, words_fold, test_fold, eq_fold, not_fold, ext_fold, const_fold, and_fold, or_fold}
@@ -52,7 +52,7 @@ module _ (t : List Node) (ways : Ways) (ins reps : List ℕ) where
       -- k marked, among rows with perhaps a constant more
       abbrev with_mark : St → (ℕ → Node) → ℕ → Mark → St
       with_mark σ₁ rows made mk =
-          record { rows = rows; mark = put σ₁.mark k mk; made = made; inputs = σ₁.inputs; replies = σ₁.replies; asked = σ₁.asked; held = σ₁.held; looked = σ₁.looked; passed = σ₁.passed }
+          record σ₁ { rows = rows; mark = put σ₁.mark k mk; made = made }
 
       settled : (a m : ℕ) (σ₁ : St) (f : Fold) → a ≤ 3 → m ≤ fee t k → Here a m σ₁ → Folds σ₁ f → If (Visited t ways ins reps k σ) (settle t ways k σ₁ f)
       unfolding settle
@@ -101,12 +101,12 @@ module _ (t : List Node) (ways : Ways) (ins reps : List ℕ) where
               let at : put σ₁.rows r (constant s y) r ≡ constant s y = put_same σ₁.rows r (constant s y) in
               let st : At t ways ins reps σ₂ r g.sort =
               record {
-                serve = λ i. let o : ⊥ = omega arith in absurd o;
-                sort = λ i. let o : ⊥ = omega arith in absurd o;
+                serve = λ i. absurd (omega arith);
+                sort = λ i. absurd (omega arith);
                 new = λ _. record { inside = omega arith; sort = ap (λ (w : Node). w.sort) at ∙ h.0 };
               } in
               let st' : At t ways ins reps σ₂ r (node_at t k).sort = subst (At t ways ins reps σ₂ r) same-sort st in
-              let far : Below t k r = λ i. let o : ⊥ = omega arith in absurd o in
+              let far : Below t k r = λ i. absurd (omega arith) in
               record {
                 went = paid σ₂.rows σ₂.made (replaced r) (shape_const t σ₁.rows σ₁.made σ₁.mark x.fine.shape (constant s y) h.1) (stands_const t σ₁.rows σ₁.made (constant s y))
                     (far, st') (used-made t σ₁.mark σ₁.made k l still x.fine.used) (λ p. refl) (omega arith);
@@ -120,21 +120,10 @@ module _ (t : List Node) (ways : Ways) (ins reps : List ℕ) where
 
       row_went : (σ₁ : St) (nd : Node) → Row σ₁ nd → Here 0 0 σ₁ → Here 0 0 (set_row σ₁ k nd)
       row_went σ₁ nd r x =
-          record {
-            fine = record {
-              shape = shape_row t σ₁.rows σ₁.made σ₁.mark x.fine.shape k nd l (subst (Alike nd) eg r.0) (subst (λ (w : Node). Refs t σ₁.rows σ₁.made k (operands nd) (operands w)) eg r.1);
-              books = x.fine.books;
-              used = x.fine.used;
-              marked = x.fine.marked;
-              fair = x.fine.fair;
-              gained = x.fine.gained;
-            };
-            above = x.above;
-            later = λ w s h. stands-row t σ₁.rows σ₁.made k nd l w s (x.later w s h);
-            few = x.few;
-            asks = x.asks;
-            looks = x.looks;
-          }
+          let shape : Shape t (put σ₁.rows k nd) σ₁.made σ₁.mark =
+          shape_row t σ₁.rows σ₁.made σ₁.mark x.fine.shape k nd l (subst (Alike nd) eg r.0) (subst (λ (w : Node). Refs t σ₁.rows σ₁.made k (operands nd) (operands w)) eg r.1) in
+          let later : Later t ways ins reps σ (set_row σ₁ k nd) = λ w s h. stands-row t σ₁.rows σ₁.made k nd l w s (x.later w s h) in
+          assumption (shape, later)
 
       -- an operand: what it is left with stands for it
       operand : {B : Type 0} (P : B → Type 0) (σ₁ : St) (j : ℕ) (f : St × ℕ → Out B) → j < k → may_serve (node_at t j) ≡ true → Here 0 0 σ₁
@@ -213,6 +202,19 @@ module _ (t : List Node) (ways : Ways) (ins reps : List ℕ) where
             (ff p x (const_of p.0.rows p.1.0) (const_of p.0.rows p.1.1) (operand_number p.0 x.here.fine p.1.0 (node_at t g.a).sort x.first.1) (operand_number p.0 x.here.fine p.1.1 (node_at t g.b).sort x.second.1))
             (ask? p.0))
 
+        -- And and Or: their operands have the node's sort
+        logic_went : (a : ℕ) (fold : ℕ → ℕ → Option ℕ → Option ℕ → Fold) (more : St → Out (St × Fold)) → a ≤ 3 → (node_at t g.a).sort ≡ g.sort → (node_at t g.b).sort ≡ g.sort
+            → ((rows : ℕ → Node) (made : ℕ) → Shares t rows made → (x y : ℕ) (cx cy : Option ℕ) → Below t k x → Below t k y
+            → Stands t rows made x g.sort → Stands t rows made y g.sort
+            → ConstFits t rows made cx g.sort → ConstFits t rows made cy g.sort → FoldStands t rows made k g.sort (fold x y cx cy))
+            → ((σ₁ : St) → Asks t ways ins reps k g.sort a σ₁ more) → If (Visited t ways ins reps k σ) (binary t ways vis σ k g fold more)
+        logic_went a fold more h ea eb law ask? =
+            binary_went a fold more h
+            (λ p x cx cy fx fy. law p.0.rows p.0.made x.here.fine.shape.shares p.1.0 p.1.1 cx cy x.first.0 x.second.0
+            (subst (At t ways ins reps p.0 p.1.0) ea x.first.1) (subst (At t ways ins reps p.0 p.1.1) eb x.second.1)
+            (subst (ConstFits t p.0.rows p.0.made cx) ea fx) (subst (ConstFits t p.0.rows p.0.made cy) eb fy))
+            ask?
+
       -- ---- Ite
       module _ (ha : g.a < k) (hb : g.b < k) (hc : g.c < k) (sa : may_serve (node_at t g.a) ≡ true) (sb : may_serve (node_at t g.b) ≡ true) (sc : may_serve (node_at t g.c) ≡ true)
           (kp : (x y z : ℕ) → Rests (with g x y z))
@@ -232,23 +234,24 @@ module _ (t : List Node) (ways : Ways) (ins reps : List ℕ) where
         itself : (σ₁ : St) (j : ℕ) → j < k → may_serve (node_at t j) ≡ true → Ref t σ₁.rows σ₁.made k j j
         itself σ₁ j h sv = ((λ _. h), stands-itself t σ₁.rows σ₁.made j (omega arith) sv)
 
+        -- the branch j is chosen: what stands for it takes k's place
+        chosen_went : (σ₁ : St) (j : ℕ) (rewritten : ℕ → Node) → j < k → may_serve (node_at t j) ≡ true → (node_at t j).sort ≡ g.sort
+            → ((p : St × ℕ) → Later t ways ins reps σ₁ p.0 → Ref t p.0.rows p.0.made k p.1 j → Row p.0 (rewritten p.1)) → Here 0 0 σ₁
+            → If (Visited t ways ins reps k σ) (vis σ₁ j >>= λ p. settle t ways k (set_row p.0 k (rewritten p.1)) (swap p.1))
+        chosen_went σ₁ j rewritten h sv e row x =
+            operand (Visited t ways ins reps k σ) σ₁ j _ h sv x
+            (λ p y lt r. settled 0 0 (set_row p.0 k (rewritten p.1)) (swap p.1) (omega arith) (omega arith) (row_went p.0 (rewritten p.1) (row p lt r) y)
+            (r.0, after_row p.0 (rewritten p.1) p.1 g.sort (subst (At t ways ins reps p.0 p.1) e r.1)))
+
         ite_on_went : (σ₁ : St) (x : ℕ) (c : Branch) → (node_at t g.a).sort ≡ 1 → (node_at t g.b).sort ≡ g.sort → (node_at t g.c).sort ≡ g.sort
             → Ref t σ₁.rows σ₁.made k x g.a → Here 0 0 σ₁ → If (Visited t ways ins reps k σ) (ite_on t ways vis σ₁ k g x c)
         unfolding ite_on
         ite_on_went σ₁ x left ea eb ec rx s =
-            operand (Visited t ways ins reps k σ) σ₁ g.b _ hb sb s
-            (λ p y lt ry.
-            let nd : Node = with g x p.1 g.c in
-            settled 0 0 (set_row p.0 k nd) (swap p.1) (omega arith) (omega arith)
-            (row_went p.0 nd (alike x p.1 g.c (kp x p.1 g.c), rf p.0.rows p.0.made x p.1 g.c (rx.0, lt x _ rx.1) ry (itself p.0 g.c hc sc)) y)
-            (ry.0, after_row p.0 nd p.1 g.sort (subst (At t ways ins reps p.0 p.1) eb ry.1)))
+            chosen_went σ₁ g.b (λ y. with g x y g.c) hb sb eb
+            (λ p lt ry. (alike x p.1 g.c (kp x p.1 g.c), rf p.0.rows p.0.made x p.1 g.c (rx.0, lt x _ rx.1) ry (itself p.0 g.c hc sc))) s
         ite_on_went σ₁ x right ea eb ec rx s =
-            operand (Visited t ways ins reps k σ) σ₁ g.c _ hc sc s
-            (λ p z lt rz.
-            let nd : Node = with g x g.b p.1 in
-            settled 0 0 (set_row p.0 k nd) (swap p.1) (omega arith) (omega arith)
-            (row_went p.0 nd (alike x g.b p.1 (kp x g.b p.1), rf p.0.rows p.0.made x g.b p.1 (rx.0, lt x _ rx.1) (itself p.0 g.b hb sb) rz) z)
-            (rz.0, after_row p.0 nd p.1 g.sort (subst (At t ways ins reps p.0 p.1) ec rz.1)))
+            chosen_went σ₁ g.c (λ z. with g x g.b z) hc sc ec
+            (λ p lt rz. (alike x g.b p.1 (kp x g.b p.1), rf p.0.rows p.0.made x g.b p.1 (rx.0, lt x _ rx.1) (itself p.0 g.b hb sb) rz)) s
         ite_on_went σ₁ x undecided ea eb ec rx s =
             operand (Visited t ways ins reps k σ) σ₁ g.b _ hb sb s
             (λ p y lt ry. operand (Visited t ways ins reps k σ) p.0 g.c _ hc sc y
@@ -283,37 +286,20 @@ module _ (t : List Node) (ways : Ways) (ins reps : List ℕ) where
 
           looked : Here 0 r.looked (add_tally σ₁ r.looked 0)
           looked =
-              record {
-                fine = record { shape = x.fine.shape; books = passing (σ₁.passed + 0) (strict-zero ways.reading σ₁.passed x.fine.books.clean); used = x.fine.used; marked = x.fine.marked; fair = omega (arith, x.fine.fair); gained = omega (arith, x.fine.gained) };
-                above = x.above;
-                later = x.later;
-                few = x.few;
-                asks = x.asks;
-                looks = omega (arith, x.looks);
-              }
+              let books = passing (σ₁.passed + 0) (strict-zero ways.reading σ₁.passed x.fine.books.clean) in
+              let fair : σ₁.passed + 0 ≤ σ₁.looked + r.looked = omega (arith, x.fine.fair) in
+              let gained : σ₁.passed + 0 ≤ credit (fee t) (length t) σ₁.mark = omega (arith, x.fine.gained) in
+              let looks : σ₁.looked + r.looked + unpaid (fee t) (length t) σ₁.mark ≤ σ.looked + unpaid (fee t) (length t) σ.mark + r.looked = omega (arith, x.looks) in
+              assumption (books, fair, gained, looks)
 
           found : (v : ℕ) → Strict ways.reading (σ₁.passed + r.unsettled) → If (Visited t ways ins reps k σ) (settle t ways k (add_tally σ₁ r.looked 0) (swap v))
               → If (Visited t ways ins reps k σ) (settle t ways k (add_tally σ₁ r.looked r.unsettled) (swap v))
           found v h w =
-              record {
-                went = record {
-                  fine = record {
-                    shape = w.went.fine.shape;
-                    books = passing (σ₁.passed + r.unsettled) h;
-                    used = w.went.fine.used;
-                    marked = w.went.fine.marked;
-                    fair = omega (arith, x.fine.fair);
-                    gained = omega (arith, x.fine.gained, credit-replaced (fee t) (length t) σ₁.mark k v l (x.above k (omega arith) ∙ fresh!));
-                  };
-                  above = w.went.above;
-                  later = w.went.later;
-                  few = w.went.few;
-                  asks = w.went.asks;
-                  looks = w.went.looks;
-                };
-                upto = w.upto;
-                stands = w.stands;
-              }
+              let books = passing (σ₁.passed + r.unsettled) h in
+              let fair : σ₁.passed + r.unsettled ≤ σ₁.looked + r.looked = omega (arith, x.fine.fair) in
+              let gained : σ₁.passed + r.unsettled ≤ credit (fee t) (length t) (put σ₁.mark k (replaced v)) =
+              omega (arith, x.fine.gained, credit-replaced (fee t) (length t) σ₁.mark k v l (x.above k (omega arith) ∙ fresh!)) in
+              assumption (books, fair, gained)
 
           go : (o : Option ℕ) → Strict ways.reading (σ₁.passed + passed_by o r.unsettled) → Folds σ₁ (fold_found o) → If (Visited t ways ins reps k σ) (settle t ways k (add_tally σ₁ r.looked (passed_by o r.unsettled)) (fold_found o))
           go none h g' = settled 0 r.looked (add_tally σ₁ r.looked 0) stays (omega arith) hl looked tt
@@ -345,27 +331,13 @@ module _ (t : List Node) (ways : Ways) (ins reps : List ℕ) where
           -- the state is marked, then known to hold the input
           held : If (Visited t ways ins reps k σ) (settle t ways k σ (make g.sort x)) → If (Visited t ways ins reps k σ) (settle t ways k (add_held (set_inputs σ xs) k (new_number t ways σ)) (make g.sort x))
           held v =
-              record {
-                went = record {
-                  fine = record {
-                    shape = v.went.fine.shape;
-                    used = v.went.fine.used;
-                    fair = v.went.fine.fair;
-                    gained = v.went.fine.gained;
-                    books = books_held t ways.reading ins reps σ.passed σ.inputs σ.replies σ.asked σ.held v.went.fine.books x xs (record { state = k; by = new_number t ways σ }) ei
-                        (record { inside = l; state = ap (λ (w : Node). w.kind) (sym eg) ∙ ks; by = omega arith; bare = ap operands (sym eg) ∙ os }) others;
-                    marked = all_join (λ (h : Held). put σ.mark k (replaced (new_number t ways σ)) h.state ≡ replaced h.by) σ.held (record { state = k; by = new_number t ways σ } ∷ []) v.went.fine.marked
-                        (put_same σ.mark k (replaced (new_number t ways σ)), tt);
-                  };
-                  above = v.went.above;
-                  later = v.went.later;
-                  few = v.went.few;
-                  asks = v.went.asks;
-                  looks = v.went.looks;
-                };
-                upto = v.upto;
-                stands = v.stands;
-              }
+              let books =
+              books_held t ways.reading ins reps σ.passed σ.inputs σ.replies σ.asked σ.held v.went.fine.books x xs (record { state = k; by = new_number t ways σ }) ei
+              (record { inside = l; state = ap (λ (w : Node). w.kind) (sym eg) ∙ ks; by = omega arith; bare = ap operands (sym eg) ∙ os }) others in
+              let marked = all_join (λ (h : Held). put σ.mark k (replaced (new_number t ways σ)) h.state ≡ replaced h.by)
+              σ.held (record { state = k; by = new_number t ways σ } ∷ []) v.went.fine.marked
+              (put_same σ.mark k (replaced (new_number t ways σ)), tt) in
+              assumption (books, marked)
 
     -- ---- the kinds
     module _ (s a b c nm : ℕ) where
@@ -410,24 +382,14 @@ module _ (t : List Node) (ways : Ways) (ins reps : List ℕ) where
           2 (fold_eq (length t)) _ (omega arith) (λ p x cx cy fx fy. eq_fold t p.0.rows p.0.made x.here.fine.shape.shares k s p.1.0 p.1.1 cx cy e)
           (λ σ₁. bit-asks t ways ins reps k s 0 σ₁ quiet e (quiet-asks t ways ins reps k s 0 σ₁))
       process_went And eg g =
-          let ea : (node_at t a).sort ≡ s = eqb-true (node_at t a).sort s g.sorts.1.0 in
-          let eb : (node_at t b).sort ≡ s = eqb-true (node_at t b).sort s g.sorts.1.1.0 in
-          binary_went (mk And s a b c nm) eg g.before.0 g.before.1.0 g.serve.0 g.serve.1.0 (λ x y. (refl, refl)) (λ rows made x y rx ry. (rx, (ry, tt)))
-          2 (fold_and s) _ (omega arith)
-          (λ p x cx cy fx fy.
-          let fits : Option ℕ → ℕ → Type 0 = ConstFits t p.0.rows p.0.made in
-          and_fold t p.0.rows p.0.made x.here.fine.shape.shares k s p.1.0 p.1.1 cx cy g.known (eqb-false s 3 (not-true _ g.sorts.0)) x.first.0 x.second.0
-          (subst (At t ways ins reps p.0 p.1.0) ea x.first.1) (subst (At t ways ins reps p.0 p.1.1) eb x.second.1) (subst (fits cx) ea fx) (subst (fits cy) eb fy))
+          logic_went (mk And s a b c nm) eg g.before.0 g.before.1.0 g.serve.0 g.serve.1.0 (λ x y. (refl, refl)) (λ rows made x y rx ry. (rx, (ry, tt)))
+          2 (fold_and s) _ (omega arith) (eqb-true (node_at t a).sort s g.sorts.1.0) (eqb-true (node_at t b).sort s g.sorts.1.1.0)
+          (λ rows made sh x y cx cy. and_fold t rows made sh k s x y cx cy g.known (eqb-false s 3 (not-true _ g.sorts.0)))
           (λ σ₁. and-asks t ways ins reps k s σ₁)
       process_went Or eg g =
-          let ea : (node_at t a).sort ≡ s = eqb-true (node_at t a).sort s g.sorts.1.0 in
-          let eb : (node_at t b).sort ≡ s = eqb-true (node_at t b).sort s g.sorts.1.1.0 in
-          binary_went (mk Or s a b c nm) eg g.before.0 g.before.1.0 g.serve.0 g.serve.1.0 (λ x y. (refl, refl)) (λ rows made x y rx ry. (rx, (ry, tt)))
-          0 (fold_or s) quiet (omega arith)
-          (λ p x cx cy fx fy.
-          let fits : Option ℕ → ℕ → Type 0 = ConstFits t p.0.rows p.0.made in
-          or_fold t p.0.rows p.0.made x.here.fine.shape.shares k s p.1.0 p.1.1 cx cy g.known (eqb-false s 3 (not-true _ g.sorts.0)) x.first.0 x.second.0
-          (subst (At t ways ins reps p.0 p.1.0) ea x.first.1) (subst (At t ways ins reps p.0 p.1.1) eb x.second.1) (subst (fits cx) ea fx) (subst (fits cy) eb fy))
+          logic_went (mk Or s a b c nm) eg g.before.0 g.before.1.0 g.serve.0 g.serve.1.0 (λ x y. (refl, refl)) (λ rows made x y rx ry. (rx, (ry, tt)))
+          0 (fold_or s) quiet (omega arith) (eqb-true (node_at t a).sort s g.sorts.1.0) (eqb-true (node_at t b).sort s g.sorts.1.1.0)
+          (λ rows made sh x y cx cy. or_fold t rows made sh k s x y cx cy g.known (eqb-false s 3 (not-true _ g.sorts.0)))
           (λ σ₁. quiet-asks t ways ins reps k s 0 σ₁)
       process_went Not eg g =
           unary_went (mk Not s a b c nm) eg (fold_not (length t) s) g.before.0 g.serve.0 (λ x. (refl, refl)) (λ rows made x r. (r, tt))

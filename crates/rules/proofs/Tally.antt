@@ -16,11 +16,11 @@ use Rattle.rules.specs.Fold.{Fold, stays, swap, make}
 use Rattle.rules.specs.Memory.{Found, find, fold_found, passed_by}
 use Rattle.rules.specs.Visit.{Ways, settle, forward, take_input}
 use Rattle.rules.specs.Questions.{ask, first_reply, most}
-use Rattle.rules.specs.Whole.{ways_of, fold, fold_bads, bads, last_question, visit_all, judge_sequentials}
+use Rattle.rules.specs.Whole.{ways_of, fold, fold_bads, bads, last_question, visit_all, judge_sequentials, Folded}
 use Rattle.rules.specs.Tally.{writes, visited_reads, LookedRule, AState, TakenRule, AddedBy, ReadRule, forwarded_reads, PassedRule, Uncounted, OthersRule, last_reply, verdict_by, VerdictRule}
 use Rattle.rules.specs.Fine.{Took}
 use Rattle.btor.proofs.Agreement.{cases}
-use Rattle.rules.proofs.Base.{all_map, If, if-bind, if-always}
+use Rattle.rules.proofs.Base.{all_map, If, if-bind, if-after}
 use Rattle.rules.proofs.Budget.{paid-all, credit-all}
 use Rattle.rules.proofs.Walked.{folded}
 
@@ -50,8 +50,8 @@ unfolding settle
 read-adds t ways k σ r = go r.value refl
   where
     go : (o : Option ℕ) → r.value ≡ o → AddedBy σ r (settle t ways k (add_tally σ r.looked (passed_by o r.unsettled)) (fold_found o))
-    go none e = record { looked = refl; lost = λ _. omega arith; found = λ v q. let z : ◌≡◌ {A = ℕ} 0 1 = cc in let i : ⊥ = omega arith in absurd i }
-    go (some w) e = record { looked = refl; lost = λ q. let z : ◌≡◌ {A = ℕ} 0 1 = cc in let i : ⊥ = omega arith in absurd i; found = λ v q. refl }
+    go none e = record { looked = refl; lost = λ _. omega arith; found = λ v q. cc }
+    go (some w) e = record { looked = refl; lost = λ q. cc; found = λ v q. refl }
 
 pub read_rule : ReadRule
 unfolding ReadRule forward
@@ -106,26 +106,24 @@ module _ (m : Model) (how : Mode) where
       if-bind (λ p. last_reply p.0.asked ≡ p.1) (λ (p : St × ℕ). p.1 ≡ verdict_by true (b ∷ b' ∷ bs) (last_reply p.0.asked)) (ask (length m.replies) σ 5 (length (b ∷ b' ∷ bs)) 0 (b ∷ b' ∷ bs)) _
       (ask-last (length m.replies) σ 5 (length (b ∷ b' ∷ bs)) 0 (b ∷ b' ∷ bs)) (λ p e. ap (λ r. cond (eqb r 1) 2 1) (sym e))
 
-  fold_bads-verdict : (q : Bool) (σ : St) (seqs : List ℕ) → If (λ f. f.verdict ≡ verdict_by q f.initial (last_reply f.state.asked)) (fold_bads m how q σ seqs)
+  abbrev Told : Bool → Folded → Type 0
+  Told q f = f.verdict ≡ verdict_by q f.initial (last_reply f.state.asked)
+
+  fold_bads-verdict : (q : Bool) (σ : St) (seqs : List ℕ) → If (Told q) (fold_bads m how q σ seqs)
   unfolding fold_bads
   fold_bads-verdict true σ seqs =
-      if-bind (λ i. Unit {0}) (λ f. f.verdict ≡ verdict_by true f.initial (last_reply f.state.asked)) (bads m how false true 3 σ m.initial) _
-      (if-always (λ i. Unit {0}) (bads m how false true 3 σ m.initial) (λ i. tt))
-      (λ i _. if-bind (λ p. p.1 ≡ verdict_by true i.stay (last_reply p.0.asked)) (λ f. f.verdict ≡ verdict_by true f.initial (last_reply f.state.asked)) (last_question m how i.after i.stay) _
-      (last-verdict i.after i.stay) (λ p e. e))
+      if-after (Told true) (bads m how false true 3 σ m.initial) _
+      (λ i. if-bind (λ p. p.1 ≡ verdict_by true i.stay (last_reply p.0.asked)) (Told true) (last_question m how i.after i.stay) _ (last-verdict i.after i.stay) (λ p e. e))
   fold_bads-verdict false σ seqs =
-      if-bind (λ i. Unit {0}) (λ f. f.verdict ≡ verdict_by false f.initial (last_reply f.state.asked)) (bads m how true how.terminate 3 σ m.initial) _
-      (if-always (λ i. Unit {0}) (bads m how true how.terminate 3 σ m.initial) (λ i. tt))
-      (λ i _. if-bind (λ r. Unit {0}) (λ f. f.verdict ≡ verdict_by false f.initial (last_reply f.state.asked)) (bads m how true how.terminate 4 i.after m.later) _
-      (if-always (λ r. Unit {0}) (bads m how true how.terminate 4 i.after m.later) (λ r. tt)) (λ r _. refl))
+      if-after (Told false) (bads m how true how.terminate 3 σ m.initial) _
+      (λ i. if-after (Told false) (bads m how true how.terminate 4 i.after m.later) _ (λ r. refl))
 
-  fold-verdict : If (λ f. f.verdict ≡ verdict_by how.one_query f.initial (last_reply f.state.asked)) (fold m how)
+  fold-verdict : If (Told how.one_query) (fold m how)
   unfolding fold
   fold-verdict =
       let j = judge_sequentials m.table (start m.table m.inputs m.replies) m.sequentials in
-      if-bind (λ σ. Unit {0}) (λ f. f.verdict ≡ verdict_by how.one_query f.initial (last_reply f.state.asked)) (visit_all m.table (ways_of m how) j.0 j.1) _
-      (if-always (λ σ. Unit {0}) (visit_all m.table (ways_of m how) j.0 j.1) (λ σ. tt)) (λ σ _. fold_bads-verdict how.one_query σ j.1)
+      if-after (Told how.one_query) (visit_all m.table (ways_of m how) j.0 j.1) _ (λ σ. fold_bads-verdict how.one_query σ j.1)
 
 pub verdict_rule : VerdictRule
 unfolding VerdictRule
-verdict_rule m how f e = subst (If (λ f. f.verdict ≡ verdict_by how.one_query f.initial (last_reply f.state.asked))) e (fold-verdict m how)
+verdict_rule m how f e = subst (If (Told m how how.one_query)) e (fold-verdict m how)

@@ -11,7 +11,7 @@ use lib.ListN.{length}
 use lib.Dec.{leb, eqb}
 use borrow.Author.Tests.{eqb-true}
 use Rattle.rules.specs.Lists.{All}
-use Rattle.rules.specs.Refusal.{Out, refused, done, ◌>>=◌}
+use Rattle.rules.specs.Refusal.{Out, ◌>>=◌}
 use Rattle.rules.specs.Table.{Node, constant, node_at, operands}
 use Rattle.rules.specs.Value.{Value, number}
 use Rattle.rules.specs.Walk.{St, Mark, fresh, kept, replaced, set_row, set_mark, add_const}
@@ -20,7 +20,7 @@ use Rattle.rules.specs.Questions.{first_reply, most, question, ask, ask_or, quie
 use Rattle.rules.specs.Visit.{Ways, settle, finish_stay, finish}
 use Rattle.rules.specs.Demand.{Claim, Holds, Same}
 use Rattle.btor.proofs.Agreement.{cases}
-use Rattle.rules.proofs.Base.{cases_cond, no, put_same, put_other, put_all, all_left, all_right, If}
+use Rattle.rules.proofs.Base.{cases_cond, no, put_same, put_other, put_all, all_left, all_right, If, if-bind, if-map}
 use Rattle.rules.proofs.Folds.{FoldOk, RowOk}
 
 pub record Ok (t : List Node) (ways : Ways) (v : ℕ → Value) (σ : St) : Type 0 where
@@ -50,20 +50,16 @@ Goes t ways v P σ Q out = If (λ p. Ok t ways v p.0 → Ok t ways v σ × (P �
 
 module _ (t : List Node) (ways : Ways) (v : ℕ → Value) where
   pub weaken : {B : Type 0} (P P' : Type 0) (σ : St) (Q : B → Type 0) (m : Out (St × B)) → (P' → P) → Goes t ways v P σ Q m → Goes t ways v P' σ Q m
-  weaken P P' σ Q (refused r) f g = tt
-  weaken P P' σ Q (done x) f g = λ o. let h = g o in (h.0, λ p i. h.1 (f p) i)
+  weaken P P' σ Q m f g = if-map _ _ m (λ x g o. let h = g o in (h.0, λ p i. h.1 (f p) i)) g
 
   pub bind : {A B : Type 0} (P : Type 0) (σ : St) (Q : A → Type 0) (R : B → Type 0) (m : Out (St × A)) (f : St × A → Out (St × B))
       → Goes t ways v P σ Q m → ((σ₁ : St) (x : A) → Goes t ways v (P × Q x) σ₁ R (f (σ₁, x))) → Goes t ways v P σ R (m >>= f)
-  bind P σ Q R (refused r) f g k = tt
-  bind P σ Q R (done x) f g k = after (f x) (k x.0 x.1)
-    where
-      after : (o : Out (St × _)) → Goes t ways v (P × Q x.1) x.0 R o → Goes t ways v P σ R o
-      after (refused r) h = tt
-      after (done y) h = λ o.
-          let b = h o in
-          let a = g b.0 in
-          (a.0, λ p i. let c = a.1 p i in b.1 (p, c.1) c.0)
+  bind P σ Q R m f g k =
+      if-bind _ _ m f g
+      (λ x g. if-map _ _ (f x) (λ y h o.
+      let b = h o in
+      let a = g b.0 in
+      (a.0, λ p i. let c = a.1 p i in b.1 (p, c.1) c.0)) (k x.0 x.1))
 
   -- ---- one change of the state at a time
   pub row_step : (σ : St) (k : ℕ) (nd : Node) → k < length t → Ok t ways v (set_row σ k nd) → Ok t ways v σ
@@ -84,7 +80,7 @@ module _ (t : List Node) (ways : Ways) (v : ℕ → Value) where
       }
 
   pub mark_step : (σ : St) (k : ℕ) (m : Mark) → Ok t ways v (set_mark σ k m) → Ok t ways v σ
-  mark_step σ k m o = record { clean = o.clean; told = o.told; same = o.same; news = o.news }
+  mark_step σ k m o = assumption o
 
   pub mark_inv : (σ : St) (k : ℕ) (m : Mark) → MarkOk v k m → Inv t ways v σ → Inv t ways v (set_mark σ k m)
   mark_inv σ k m h i = record { given_ok = i.given_ok; rows_ok = i.rows_ok; marks_ok = put_all (MarkOk v) σ.mark k m h i.marks_ok }
@@ -106,7 +102,7 @@ module _ (t : List Node) (ways : Ways) (v : ℕ → Value) where
   pub const_inv : (σ : St) (r s x : ℕ) → length t ≤ r → v r ≡ number x → Inv t ways v σ → Inv t ways v (add_const σ r s x)
   const_inv σ r s x z h i =
       record {
-        given_ok = put_all (λ j (w : Node). j < length t → GivenOk t v j w) σ.rows r (constant s x) (λ l. let o : ⊥ = omega arith in absurd o) i.given_ok;
+        given_ok = put_all (λ j (w : Node). j < length t → GivenOk t v j w) σ.rows r (constant s x) (λ l. absurd (omega arith)) i.given_ok;
         rows_ok = put_all (RowOk v ways.reading) σ.rows r (constant s x) (record { worth! = sym h; stored = λ e. no e }) i.rows_ok;
         marks_ok = i.marks_ok;
       }
@@ -135,7 +131,7 @@ module _ (t : List Node) (ways : Ways) (v : ℕ → Value) where
       cases (Goes t ways v P σ (λ r. r ≡ 1 → Claim v (question q x y bs r))) (leb (first_reply σ.replies) (most q))
       (λ _ o. (
         record { clean = o.clean; told = all_left (Holds v) σ.asked _ o.told; same = o.same; news = o.news },
-        λ p i. (record { given_ok = i.given_ok; rows_ok = i.rows_ok; marks_ok = i.marks_ok }, (all_right (Holds v) σ.asked _ o.told).0),
+        λ p i. (assumption i, (all_right (Holds v) σ.asked _ o.told).0),
       ))
       (λ _. tt)
 

@@ -76,8 +76,8 @@ module _ {A : Type 0} (d : A) (step : ℕ → Node → (ℕ → A) → A) (rows 
     (low : (k : ℕ) → Dom k → rank k < suc (suc k)) where
   steady : (f g k : ℕ) → Dom k → rank k < f → rank k < g → over_in d step rows f k ≡ over_in d step rows g k
   unfolding over_in
-  steady zero g k e h i = let z : ⊥ = omega arith in absurd z
-  steady (suc f) zero k e h i = let z : ⊥ = omega arith in absurd z
+  steady zero g k e h i = absurd (omega arith)
+  steady (suc f) zero k e h i = absurd (omega arith)
   steady (suc f) (suc g) k e h i =
       same (over_in d step rows f) (over_in d step rows g) k
       (all_map _ (λ j. over_in d step rows f j ≡ over_in d step rows g j) (λ j q. let r = q.1 in steady f g j q.0 (omega (arith, r)) (omega (arith, r))) (operands (rows k)) (down k e))
@@ -94,7 +94,7 @@ module _ {A : Type 0} (d : A) (step : ℕ → Node → (ℕ → A) → A) (rows 
   module _ (u : ℕ → A) (is : (k : ℕ) → Dom k → step k (rows k) u ≡ u k) where
     reaches : (f k : ℕ) → Dom k → rank k < f → over_in d step rows f k ≡ u k
     unfolding over_in
-    reaches zero k e h = let z : ⊥ = omega arith in absurd z
+    reaches zero k e h = absurd (omega arith)
     reaches (suc f) k e h =
         same (over_in d step rows f) u k
         (all_map _ (λ j. over_in d step rows f j ≡ u j) (λ j q. let r = q.1 in reaches f j q.0 (omega (arith, r))) (operands (rows k)) (down k e))
@@ -193,7 +193,7 @@ module _ (how : Reading) (t : List Node) (k : ℕ) (u : ℕ → Value) (own : Va
 
 module _ (how : Reading) (t : List Node) (α : ℕ → Value) (legal : AllLegal t) (assigned : Assigns t α) where
   fits_below : (m k : ℕ) → k < m → k < length t → Fits (node_at t k).sort (value how (node_at t) α k)
-  fits_below zero k h l = let z : ⊥ = omega arith in absurd z
+  fits_below zero k h l = absurd (omega arith)
   fits_below (suc m) k h l =
       subst (Fits (node_at t k).sort) (value-is how t α legal k l)
       (meaning-fits how t k (value how (node_at t) α) (α k) (λ j i. fits_below m j (omega arith) (omega arith)) (node_at t k).kind (node_at t k) (legal k l).before (legal k l).sorts (assigned k l) refl)

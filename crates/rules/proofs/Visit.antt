@@ -4,7 +4,7 @@
 use Prim.Native.Nat.{ℕ, zero, suc, ◌+◌, ◌<◌, ◌^◌}
 use mathlib.Core.Path.{◌≡◌, refl, sym, ap, ap₂, ◌∙◌, subst}
 use mathlib.Core.Logic.{◌≢◌}
-use mathlib.Core.Bool.{Bool, true, false, cond}
+use mathlib.Core.Bool.{Bool, true, false, cond, not}
 use mathlib.Core.Option.{Option, none, some}
 use mathlib.Core.List.{List, [], ◌∷◌, map}
 use native.Mathlib.Omega.{arith}
@@ -15,8 +15,8 @@ use borrow.Author.Tests.{eqb-true, eqb-false, eq-eqb, not-true}
 use Rattle.btor.specs.Operators.{compute, complement, bit, less}
 use Rattle.btor.specs.Sorts.{width}
 use Rattle.rules.specs.Lists.{All}
-use Rattle.rules.specs.Refusal.{Out, refused, done}
-use Rattle.rules.specs.Table.{Kind, Const, Read, Write, Word, Ult, Ext, Ite, Eq, And, Or, Not, State, Next, Input, Bad, Node, with, node_at, operands_as, operands, fits}
+use Rattle.rules.specs.Refusal.{Out, done, ◌>>=◌}
+use Rattle.rules.specs.Table.{Kind, Const, Read, Write, Word, Ult, Ext, Ite, Eq, And, Or, Not, State, Next, Input, Bad, Node, with, node_at, is, operands_as, operands, fits}
 use Rattle.rules.specs.Legal.{Legal, AllLegal}
 use Rattle.rules.specs.Value.{Value, number, num, mem, written, meaning, worth, Fits}
 use Rattle.rules.specs.Walk.{St, Mark, fresh, kept, replaced, set_row, add_const, set_inputs, add_held, add_tally}
@@ -26,7 +26,7 @@ use Rattle.rules.specs.Questions.{quiet, ask_bit, ask_and, ask_ite}
 use Rattle.rules.specs.Visit.{Ways, Branch, left, right, undecided, branch, settle, finish, visit1, visit2, visit3, unary, binary, forward, ite_on, take_input, process, visit_marked, visit}
 use Rattle.rules.specs.Demand.{Same}
 use Rattle.btor.proofs.Agreement.{cases}
-use Rattle.rules.proofs.Base.{mk, cases_cond, no, all_left, all_right, word-not-write}
+use Rattle.rules.proofs.Base.{mk, cases_cond, no, all_left, all_right, word-not-write, if-map}
 use Rattle.rules.proofs.Values.{fits-num}
 use Rattle.rules.proofs.Folds.{ConstOk, FoldOk, RowOk, const_ok, fold_words_ok, fold_ext_ok, fold_test_ok, fold_eq_ok, fold_const_ok, fold_not_ok, fold_and_ok, fold_or_ok, FoundValue, FoundOk, find_ok}
 use Rattle.rules.proofs.Triple.{Ok, MarkOk, GivenOk, Inv, Goes, bind, row_step, row_inv, mark_step, mark_inv, const_step, const_inv, settle_ok, ask_bit_ok, ask_and_ok, ask_ite_ok, quiet_ok, finish_ok}
@@ -52,15 +52,24 @@ module _ (t : List Node) (ways : Ways) (v : ℕ → Value) where
     -- store a rewritten row, and go on
     stored : {B : Type 0} (P : Type 0) (σ : St) (k : ℕ) (nd : Node) (Q : B → Type 0) (m : Out (St × B)) → k < length t → (P → RowIs k nd)
         → Goes t ways v P (set_row σ k nd) Q m → Goes t ways v P σ Q m
-    stored P σ k nd Q (refused r) l h g = tt
-    stored P σ k nd Q (done x) l h g = λ o. let b = g o in (row_step t ways v σ k nd l b.0, λ p i. b.1 p (row_inv t ways v σ k nd (h p) i))
+    stored P σ k nd Q m l h g = if-map _ _ m (λ x g o. let b = g o in (row_step t ways v σ k nd l b.0, λ p i. b.1 p (row_inv t ways v σ k nd (h p) i))) g
+
+    -- visit an operand, or two, and go on: what each is left with is worth what it is
+    operand_ok : {B : Type 0} (P : Type 0) (σ : St) (i : ℕ) (Q : B → Type 0) (f : St × ℕ → Out (St × B)) → i < length t
+        → ((σ₁ : St) (x : ℕ) → Goes t ways v (P × (v x ≡ v i)) σ₁ Q (f (σ₁, x))) → Goes t ways v P σ Q (vis σ i >>= f)
+    operand_ok P σ i Q f l g = bind t ways v P σ (λ x. v x ≡ v i) Q (vis σ i) f (vis_ok P σ i l) g
+
+    operands_ok : {B : Type 0} (P : Type 0) (σ : St) (i j : ℕ) (Q : B → Type 0) (f : St × ℕ → St × ℕ → Out (St × B)) → i < length t → j < length t
+        → ((σ₁ σ₂ : St) (x y : ℕ) → Goes t ways v ((P × (v x ≡ v i)) × (v y ≡ v j)) σ₂ Q (f (σ₁, x) (σ₂, y)))
+        → Goes t ways v P σ Q (vis σ i >>= λ p. vis p.0 j >>= f p)
+    operands_ok P σ i j Q f li lj g = operand_ok P σ i Q _ li (λ σ₁ x. operand_ok (P × (v x ≡ v i)) σ₁ j Q (f (σ₁, x)) lj (λ σ₂ y. g σ₁ σ₂ x y))
 
     module _ (P : Type 0) (σ : St) (k : ℕ) (nd : Node) (l : k < length t) where
       visit1_ok : nd.a < length t → ((x : ℕ) → v x ≡ v nd.a → RowIs k (with nd x nd.b nd.c))
           → Goes t ways v P σ (λ x. v x ≡ v nd.a) (visit1 vis σ k nd)
       unfolding visit1
       visit1_ok la h =
-          bind t ways v P σ (λ x. v x ≡ v nd.a) (λ x. v x ≡ v nd.a) (vis σ nd.a) _ (vis_ok P σ nd.a la)
+          operand_ok P σ nd.a (λ x. v x ≡ v nd.a) _ la
           (λ σ₁ x. store (P × (v x ≡ v nd.a)) σ₁ k (with nd x nd.b nd.c) (λ x. v x ≡ v nd.a) x l (λ p. h x p.1) (λ p. p.1))
 
       visit2_ok : nd.a < length t → nd.b < length t
@@ -68,21 +77,18 @@ module _ (t : List Node) (ways : Ways) (v : ℕ → Value) where
           → Goes t ways v P σ (Two v nd) (visit2 vis σ k nd)
       unfolding visit2
       visit2_ok la lb h =
-          bind t ways v P σ (λ x. v x ≡ v nd.a) _ (vis σ nd.a) _ (vis_ok P σ nd.a la)
-          (λ σ₁ x. bind t ways v (P × (v x ≡ v nd.a)) σ₁ (λ y. v y ≡ v nd.b) _ (vis σ₁ nd.b) _ (vis_ok _ σ₁ nd.b lb)
-          (λ σ₂ y. store {B = ℕ × ℕ} ((P × (v x ≡ v nd.a)) × (v y ≡ v nd.b)) σ₂ k (with nd x y nd.c) (Two v nd) (x, y) l
-          (λ p. h x y p.0.1 p.1) (λ p. (p.0.1, p.1))))
+          operands_ok P σ nd.a nd.b (Two v nd) _ la lb
+          (λ σ₁ σ₂ x y. store {B = ℕ × ℕ} ((P × (v x ≡ v nd.a)) × (v y ≡ v nd.b)) σ₂ k (with nd x y nd.c) (Two v nd) (x, y) l (λ p. h x y p.0.1 p.1) (λ p. (p.0.1, p.1)))
 
       visit3_ok : nd.a < length t → nd.b < length t → nd.c < length t
           → ((x y z : ℕ) → v x ≡ v nd.a → v y ≡ v nd.b → v z ≡ v nd.c → RowIs k (with nd x y z))
           → Goes t ways v P σ (λ (xyz : ℕ × ℕ × ℕ). Unit {0}) (visit3 vis σ k nd)
       unfolding visit3
       visit3_ok la lb lc h =
-          bind t ways v P σ (λ x. v x ≡ v nd.a) _ (vis σ nd.a) _ (vis_ok P σ nd.a la)
-          (λ σ₁ x. bind t ways v (P × (v x ≡ v nd.a)) σ₁ (λ y. v y ≡ v nd.b) _ (vis σ₁ nd.b) _ (vis_ok _ σ₁ nd.b lb)
-          (λ σ₂ y. bind t ways v ((P × (v x ≡ v nd.a)) × (v y ≡ v nd.b)) σ₂ (λ z. v z ≡ v nd.c) _ (vis σ₂ nd.c) _ (vis_ok _ σ₂ nd.c lc)
+          operands_ok P σ nd.a nd.b (λ xyz. Unit {0}) _ la lb
+          (λ σ₁ σ₂ x y. operand_ok ((P × (v x ≡ v nd.a)) × (v y ≡ v nd.b)) σ₂ nd.c (λ xyz. Unit {0}) _ lc
           (λ σ₃ z. store {B = ℕ × ℕ × ℕ} (((P × (v x ≡ v nd.a)) × (v y ≡ v nd.b)) × (v z ≡ v nd.c)) σ₃ k (with nd x y z) (λ xyz. Unit {0}) (x, y, z) l
-          (λ p. h x y z p.0.0.1 p.0.1 p.1) (λ p. tt))))
+          (λ p. h x y z p.0.0.1 p.0.1 p.1) (λ p. tt)))
 
       unary_ok : (fold : Option ℕ → Fold) → nd.a < length t → ((x : ℕ) → v x ≡ v nd.a → RowIs k (with nd x nd.b nd.c))
           → ((x : ℕ) (cx : Option ℕ) → v x ≡ v nd.a → ConstOk cx (v x) → FoldOk v (v k) (fold cx))
@@ -127,23 +133,22 @@ module _ (t : List Node) (ways : Ways) (v : ℕ → Value) where
 
         after : (r : Found) (out : Out (St × ℕ)) → Goes t ways v ((P × (passed_by r.value r.unsettled ≡ 0))) (add_tally σ r.looked (passed_by r.value r.unsettled)) (λ r. v r ≡ v k) out
             → Goes t ways v P σ (λ r. v r ≡ v k) out
-        after r (refused _) g = tt
-        after r (done d) g = λ o.
+        after r out g =
+            if-map _ _ out (λ d g o.
             let b = g o in
             let z = tally σ r.looked (passed_by r.value r.unsettled) b.0 in
-            (z.0, λ p i. b.1 (p, z.1) (record { given_ok = i.given_ok; rows_ok = i.rows_ok; marks_ok = i.marks_ok }))
+            (z.0, λ p i. b.1 (p, z.1) (assumption i))) g
 
         go : (r : Found) → (Inv t ways v σ → FoundOk v r (v m) x)
             → Goes t ways v P σ (λ r. v r ≡ v k) (settle t ways k (add_tally σ r.looked (passed_by r.value r.unsettled)) (fold_found r.value))
         go r f =
             after r (settle t ways k (add_tally σ r.looked (passed_by r.value r.unsettled)) (fold_found r.value))
             (settle_ok t ways v (P × (passed_by r.value r.unsettled ≡ 0)) k (add_tally σ r.looked (passed_by r.value r.unsettled)) (fold_found r.value)
-            (λ p i. found r.value r.unsettled p.1 (f (record { given_ok = i.given_ok; rows_ok = i.rows_ok; marks_ok = i.marks_ok })) p.0))
+            (λ p i. found r.value r.unsettled p.1 (f (assumption i)) p.0))
 
     -- what Inv shows may be assumed
     learn : {B : Type 0} (P R : Type 0) (σ : St) (Q : B → Type 0) (m : Out (St × B)) → (P → Inv t ways v σ → R) → Goes t ways v (P × R) σ Q m → Goes t ways v P σ Q m
-    learn P R σ Q (refused r) h g = tt
-    learn P R σ Q (done x) h g = λ o. let b = g o in (b.0, λ p i. b.1 (p, h p i) i)
+    learn P R σ Q m h g = if-map _ _ m (λ x g o. let b = g o in (b.0, λ p i. b.1 (p, h p i) i)) g
 
     BranchOk : Branch → ℕ → Type 0
     BranchOk left x = num (v x) ≡ 1
@@ -160,26 +165,29 @@ module _ (t : List Node) (ways : Ways) (v : ℕ → Value) where
     module _ (k : ℕ) (nd : Node) (l : k < length t) (lb : nd.b < length t) (lc : nd.c < length t)
         (e : cond (eqb (num (v nd.a)) 1) (v nd.b) (v nd.c) ≡ v k)
         (row : (x y z : ℕ) → v x ≡ v nd.a → v y ≡ v nd.b → v z ≡ v nd.c → RowIs k (with nd x y z)) where
+      -- the branch i is chosen: what stands for it takes k's place
+      chosen_ok : (P : Type 0) (σ : St) (i : ℕ) (rewritten : ℕ → Node) → i < length t → ((y : ℕ) → P → v y ≡ v i → RowIs k (rewritten y)) → (P → v i ≡ v k)
+          → Goes t ways v P σ (λ r. v r ≡ v k) (vis σ i >>= λ p. settle t ways k (set_row p.0 k (rewritten p.1)) (swap p.1))
+      chosen_ok P σ i rewritten li h g =
+          operand_ok P σ i (λ r. v r ≡ v k) _ li
+          (λ σ₁ y. stored (P × (v y ≡ v i)) σ₁ k (rewritten y) (λ r. v r ≡ v k) (settle t ways k (set_row σ₁ k (rewritten y)) (swap y)) l (λ p. h y p.0 p.1)
+          (settle_ok t ways v (P × (v y ≡ v i)) k (set_row σ₁ k (rewritten y)) (swap y) (λ p i. p.1 ∙ g p.0)))
+
       ite_on_ok : (P : Type 0) (σ : St) (x : ℕ) (c : Branch) → (P → v x ≡ v nd.a) → (P → BranchOk c x)
           → Goes t ways v P σ (λ r. v r ≡ v k) (ite_on t ways vis σ k nd x c)
       unfolding ite_on BranchOk
       ite_on_ok P σ x left hx hc =
-          bind t ways v P σ (λ y. v y ≡ v nd.b) (λ r. v r ≡ v k) (vis σ nd.b) _ (vis_ok P σ nd.b lb)
-          (λ σ₁ y. stored (P × (v y ≡ v nd.b)) σ₁ k (with nd x y nd.c) (λ r. v r ≡ v k) (settle t ways k (set_row σ₁ k (with nd x y nd.c)) (swap y)) l (λ p. row x y nd.c (hx p.0) p.1 refl)
-          (settle_ok t ways v (P × (v y ≡ v nd.b)) k (set_row σ₁ k (with nd x y nd.c)) (swap y)
-          (λ p i. p.1 ∙ ap (λ b. cond b (v nd.b) (v nd.c)) (sym (eq-eqb (num (v nd.a)) 1 (ap num (sym (hx p.0)) ∙ hc p.0))) ∙ e)))
+          chosen_ok P σ nd.b (λ y. with nd x y nd.c) lb (λ y p q. row x y nd.c (hx p) q refl)
+          (λ p. ap (λ b. cond b (v nd.b) (v nd.c)) (sym (eq-eqb (num (v nd.a)) 1 (ap num (sym (hx p)) ∙ hc p))) ∙ e)
       ite_on_ok P σ x right hx hc =
-          bind t ways v P σ (λ z. v z ≡ v nd.c) (λ r. v r ≡ v k) (vis σ nd.c) _ (vis_ok P σ nd.c lc)
-          (λ σ₁ z. stored (P × (v z ≡ v nd.c)) σ₁ k (with nd x nd.b z) (λ r. v r ≡ v k) (settle t ways k (set_row σ₁ k (with nd x nd.b z)) (swap z)) l (λ p. row x nd.b z (hx p.0) refl p.1)
-          (settle_ok t ways v (P × (v z ≡ v nd.c)) k (set_row σ₁ k (with nd x nd.b z)) (swap z)
-          (λ p i. p.1 ∙ ap (λ b. cond b (v nd.b) (v nd.c))
-          (sym (ap (λ q. eqb q 1) (ap num (sym (hx p.0)) ∙ hc p.0))) ∙ e)))
+          chosen_ok P σ nd.c (λ z. with nd x nd.b z) lc (λ z p q. row x nd.b z (hx p) refl q)
+          (λ p. ap (λ b. cond b (v nd.b) (v nd.c)) (sym (ap (λ q. eqb q 1) (ap num (sym (hx p)) ∙ hc p))) ∙ e)
       ite_on_ok P σ x undecided hx hc =
-          bind t ways v P σ (λ y. v y ≡ v nd.b) (λ r. v r ≡ v k) (vis σ nd.b) _ (vis_ok P σ nd.b lb)
-          (λ σ₁ y. bind t ways v (P × (v y ≡ v nd.b)) σ₁ (λ z. v z ≡ v nd.c) (λ r. v r ≡ v k) (vis σ₁ nd.c) _ (vis_ok _ σ₁ nd.c lc)
-          (λ σ₂ z. stored ((P × (v y ≡ v nd.b)) × (v z ≡ v nd.c)) σ₂ k (with nd x y z) (λ r. v r ≡ v k) (finish t ways k (set_row σ₂ k (with nd x y z)) stays (ask_ite ways.reply_count (length t) nd.sort k x y z)) l (λ p. row x y z (hx p.0.0) p.0.1 p.1)
+          operands_ok P σ nd.b nd.c (λ r. v r ≡ v k) _ lb lc
+          (λ σ₁ σ₂ y z. stored ((P × (v y ≡ v nd.b)) × (v z ≡ v nd.c)) σ₂ k (with nd x y z) (λ r. v r ≡ v k)
+          (finish t ways k (set_row σ₂ k (with nd x y z)) stays (ask_ite ways.reply_count (length t) nd.sort k x y z)) l (λ p. row x y z (hx p.0.0) p.0.1 p.1)
           (finish_ok t ways v ((P × (v y ≡ v nd.b)) × (v z ≡ v nd.c)) k (set_row σ₂ k (with nd x y z)) stays (ask_ite ways.reply_count (length t) nd.sort k x y z) (λ p i. tt)
-          (ask_ite_ok t ways v n_false n_true ways.reply_count _ k nd.sort x y z))))
+          (ask_ite_ok t ways v n_false n_true ways.reply_count _ k nd.sort x y z)))
 
     take_input_ok : (P : Type 0) (σ : St) (k : ℕ) (nd : Node) (xs : List ℕ) → Goes t ways v P σ (λ r. v r ≡ v k) (take_input t ways σ k nd xs)
     unfolding settle take_input
@@ -195,7 +203,7 @@ module _ (t : List Node) (ways : Ways) (v : ℕ → Value) where
         let c = const_step t ways v σ₁ nd.sort x (mark_step t ways v (add_const σ₁ r nd.sort x) k (replaced r) o) in
         let e : v r ≡ v k = sym (all_right (Same v) σ.held _ c.0.same).0 in (
           record { clean = c.0.clean; told = c.0.told; same = all_left (Same v) σ.held _ c.0.same; news = c.0.news },
-          λ p i. (mark_inv t ways v (add_const σ₁ r nd.sort x) k (replaced r) e (const_inv t ways v σ₁ r nd.sort x (omega arith) c.1 (record { given_ok = i.given_ok; rows_ok = i.rows_ok; marks_ok = i.marks_ok })), e),
+          λ p i. (mark_inv t ways v (add_const σ₁ r nd.sort x) k (replaced r) e (const_inv t ways v σ₁ r nd.sort x (omega arith) c.1 (assumption i)), e),
         ))
         (λ _. tt)))
 
@@ -215,6 +223,21 @@ module _ (t : List Node) (ways : Ways) (v : ℕ → Value) where
       as_given : (K : Kind) → mk K s a b c nm ≡ node_at t k → (x y z : ℕ) → map v (operands_as K (mk K s x y z nm)) ≡ map v (operands_as K (mk K s a b c nm))
           → RowOk v ways.reading k (mk K s x y z nm) → RowIs k (mk K s x y z nm)
       as_given K gv x y z e r = (record { kind = ap (λ (w : Node). w.kind) gv; worths = e ∙ ap (λ (w : Node). map v (operands w)) gv }, r)
+
+      -- what an operand of the node's own sort, no memory, is left with
+      own_at : (i x : ℕ) → not (eqb s 3) ≡ true → i < k → eqb (node_at t i).sort s ≡ true → v x ≡ v i → (v x ≡ number (num (v x))) × (num (v x) < 2 ^ width s)
+      own_at i x n h e q = num_at i s x (eqb-false s 3 (not-true _ n)) (inside h l) e q
+
+      -- a kind of two operands, whose meaning is f of their values
+      binary_at : (K : Kind) (f : Value → Value → Value) → mk K s a b c nm ≡ node_at t k → ((x y : ℕ) → map v (operands_as K (mk K s x y c nm)) ≡ v x ∷ v y ∷ [])
+          → ((x y : ℕ) → meaning ways.reading K v (v k) (mk K s x y c nm) ≡ f (v x) (v y)) → (is Write (mk K s a b c nm) ≡ true → ⊥) → f (v a) (v b) ≡ v k → a < k → b < k
+          → (fold : ℕ → ℕ → Option ℕ → Option ℕ → Fold) (more : St → Out (St × Fold))
+          → ((x y : ℕ) (cx cy : Option ℕ) → v x ≡ v a → v y ≡ v b → ConstOk cx (v x) → ConstOk cy (v y) → f (v x) (v y) ≡ v k → FoldOk v (v k) (fold x y cx cy))
+          → ((P' : Type 0) (σ₁ : St) → Goes t ways v P' σ₁ (FoldOk v (v k)) (more σ₁)) → Done (binary t ways vis σ k (mk K s a b c nm) fold more)
+      binary_at K f gv os m w e ha hb fold more law asks =
+          binary_ok P σ k (mk K s a b c nm) l fold more (inside ha l) (inside hb l)
+          (λ x y hx hy. as_given K gv x y c (os x y ∙ ap₂ (λ p q. p ∷ q ∷ []) hx hy ∙ sym (os a b)) (record { worth! = m x y ∙ ap₂ f hx hy ∙ e; stored = λ z. absurd (w z) }))
+          (λ x y cx cy hx hy kx ky. law x y cx cy hx hy kx ky (ap₂ f hx hy ∙ e)) asks
 
       process-at : (K : Kind) → mk K s a b c nm ≡ node_at t k → meaning ways.reading K v (v k) (mk K s a b c nm) ≡ v k → Legal t k (mk K s a b c nm)
           → Done (process t ways vis K σ k (mk K s a b c nm))
@@ -236,16 +259,13 @@ module _ (t : List Node) (ways : Ways) (v : ℕ → Value) where
           (λ x y z hx hy hz. as_given Write gv x y z (λ i. hx i ∷ hy i ∷ hz i ∷ []) (record { worth! = (λ i. written (hx i) (hy i) (hz i)) ∙ e; stored = λ _. (num_at c 2 z (λ q. omega arith) lc g.sorts.1.1.1.0 hz).0 })))
           (λ σ₁ xyz. settle_ok t ways v (P × Unit {0}) k σ₁ stays (λ p i. tt))
       process-at (Word op) gv e g =
-          let row : (x y : ℕ) → v x ≡ v a → v y ≡ v b → number (compute ways.reading op (num (v x)) (num (v y))) ≡ v k = λ x y hx hy. ap₂ (λ p q. number (compute ways.reading op (num p) (num q))) hx hy ∙ e in
-          binary_ok P σ k (mk (Word op) s a b c nm) l (λ x y. fold_words s (compute ways.reading op)) quiet (inside g.before.0 l) (inside g.before.1.0 l)
-          (λ x y hx hy. as_given (Word op) gv x y c (ap₂ (λ p q. p ∷ q ∷ []) hx hy) (record { worth! = row x y hx hy; stored = λ z. word-not-write op z }))
-          (λ x y cx cy hx hy kx ky. fold_words_ok v s (compute ways.reading op) cx cy (v x) (v y) (v k) kx ky (row x y hx hy))
-          (λ P' σ₁. quiet_ok t ways v P' (v k) σ₁)
+          binary_at (Word op) (λ p q. number (compute ways.reading op (num p) (num q))) gv (λ x y. refl) (λ x y. refl) (λ z. word-not-write op z) e g.before.0 g.before.1.0
+          (λ x y. fold_words s (compute ways.reading op)) quiet
+          (λ x y cx cy hx hy kx ky r. fold_words_ok v s (compute ways.reading op) cx cy (v x) (v y) (v k) kx ky r) (λ P' σ₁. quiet_ok t ways v P' (v k) σ₁)
       process-at Ult gv e g =
-          let row : (x y : ℕ) → v x ≡ v a → v y ≡ v b → number (bit (less (num (v x)) (num (v y)))) ≡ v k = λ x y hx hy. ap₂ (λ p q. number (bit (less (num p) (num q)))) hx hy ∙ e in
-          binary_ok P σ k (mk Ult s a b c nm) l (λ x y. fold_test (length t) less) (ask_bit ways.reply_count (length t) k quiet) (inside g.before.0 l) (inside g.before.1.0 l)
-          (λ x y hx hy. as_given Ult gv x y c (ap₂ (λ p q. p ∷ q ∷ []) hx hy) (record { worth! = row x y hx hy; stored = λ z. no z }))
-          (λ x y cx cy hx hy kx ky. fold_test_ok v (length t) n_false n_true less cx cy (v x) (v y) (v k) kx ky (row x y hx hy))
+          binary_at Ult (λ p q. number (bit (less (num p) (num q)))) gv (λ x y. refl) (λ x y. refl) (λ z. no z) e g.before.0 g.before.1.0
+          (λ x y. fold_test (length t) less) (ask_bit ways.reply_count (length t) k quiet)
+          (λ x y cx cy hx hy kx ky r. fold_test_ok v (length t) n_false n_true less cx cy (v x) (v y) (v k) kx ky r)
           (λ P' σ₁. ask_bit_ok t ways v n_false n_true ways.reply_count P' k quiet (quiet_ok t ways v P' (v k)) σ₁)
       process-at Ext gv e g =
           unary_ok P σ k (mk Ext s a b c nm) l (fold_ext s) (inside g.before.0 l)
@@ -253,35 +273,28 @@ module _ (t : List Node) (ways : Ways) (v : ℕ → Value) where
           (λ x cx hx kx. fold_ext_ok v s cx (v x) (v k) kx (ap (λ p. number (num p)) hx ∙ e))
       process-at Ite gv e g =
           let nd : Node = mk Ite s a b c nm in
-          bind t ways v P σ (λ x. v x ≡ v a) (λ r. v r ≡ v k) (vis σ a) _ (vis_ok P σ a (inside g.before.0 l))
+          operand_ok P σ a (λ r. v r ≡ v k) _ (inside g.before.0 l)
           (λ σ₁ x. learn (P × (v x ≡ v a)) (BranchOk (branch (const_of σ₁.rows x)) x) σ₁ (λ r. v r ≡ v k) (ite_on t ways vis σ₁ k nd x (branch (const_of σ₁.rows x)))
           (λ p i. branch_ok (const_of σ₁.rows x) x (const_ok v ways.reading σ₁.rows x (i.rows_ok x)))
           (ite_on_ok k nd l (inside g.before.1.0 l) (inside g.before.1.1.0 l) e
           (λ x y z hx hy hz. as_given Ite gv x y z (λ i. hx i ∷ hy i ∷ hz i ∷ []) (record { worth! = (λ i. cond (eqb (num (hx i)) 1) (hy i) (hz i)) ∙ e; stored = λ z. no z }))
           _ σ₁ x (branch (const_of σ₁.rows x)) (λ p. p.0.1) (λ p. p.1)))
       process-at Eq gv e g =
-          let row : (x y : ℕ) → v x ≡ v a → v y ≡ v b → number (bit (eqb (num (v x)) (num (v y)))) ≡ v k = λ x y hx hy. ap₂ (λ p q. number (bit (eqb (num p) (num q)))) hx hy ∙ e in
-          binary_ok P σ k (mk Eq s a b c nm) l (fold_eq (length t)) (ask_bit ways.reply_count (length t) k quiet) (inside g.before.0 l) (inside g.before.1.0 l)
-          (λ x y hx hy. as_given Eq gv x y c (ap₂ (λ p q. p ∷ q ∷ []) hx hy) (record { worth! = row x y hx hy; stored = λ z. no z }))
-          (λ x y cx cy hx hy kx ky. fold_eq_ok v (length t) n_false n_true x y cx cy (v k) kx ky (row x y hx hy))
+          binary_at Eq (λ p q. number (bit (eqb (num p) (num q)))) gv (λ x y. refl) (λ x y. refl) (λ z. no z) e g.before.0 g.before.1.0
+          (fold_eq (length t)) (ask_bit ways.reply_count (length t) k quiet)
+          (λ x y cx cy hx hy kx ky r. fold_eq_ok v (length t) n_false n_true x y cx cy (v k) kx ky r)
           (λ P' σ₁. ask_bit_ok t ways v n_false n_true ways.reply_count P' k quiet (quiet_ok t ways v P' (v k)) σ₁)
       process-at And gv e g =
-          let row : (x y : ℕ) → v x ≡ v a → v y ≡ v b → number (bit_and (num (v x)) (num (v y))) ≡ v k = λ x y hx hy. ap₂ (λ p q. number (bit_and (num p) (num q))) hx hy ∙ e in
-          let ne : s ≢ 3 = eqb-false s 3 (not-true _ g.sorts.0) in
-          let la : a < length t = inside g.before.0 l in
-          let lb : b < length t = inside g.before.1.0 l in
-          binary_ok P σ k (mk And s a b c nm) l (fold_and s) (ask_and ways.reply_count (length t) s k) la lb
-          (λ x y hx hy. as_given And gv x y c (ap₂ (λ p q. p ∷ q ∷ []) hx hy) (record { worth! = row x y hx hy; stored = λ z. no z }))
-          (λ x y cx cy hx hy kx ky. fold_and_ok v s x y cx cy (v k) kx ky (num_at a s x ne la g.sorts.1.0 hx) (num_at b s y ne lb g.sorts.1.1.0 hy) (row x y hx hy))
+          binary_at And (λ p q. number (bit_and (num p) (num q))) gv (λ x y. refl) (λ x y. refl) (λ z. no z) e g.before.0 g.before.1.0
+          (fold_and s) (ask_and ways.reply_count (length t) s k)
+          (λ x y cx cy hx hy kx ky r. fold_and_ok v s x y cx cy (v k) kx ky
+          (own_at a x g.sorts.0 g.before.0 g.sorts.1.0 hx) (own_at b y g.sorts.0 g.before.1.0 g.sorts.1.1.0 hy) r)
           (λ P' σ₁. ask_and_ok t ways v n_false n_true ways.reply_count P' k s σ₁)
       process-at Or gv e g =
-          let row : (x y : ℕ) → v x ≡ v a → v y ≡ v b → number (bit_or (num (v x)) (num (v y))) ≡ v k = λ x y hx hy. ap₂ (λ p q. number (bit_or (num p) (num q))) hx hy ∙ e in
-          let ne : s ≢ 3 = eqb-false s 3 (not-true _ g.sorts.0) in
-          let la : a < length t = inside g.before.0 l in
-          let lb : b < length t = inside g.before.1.0 l in
-          binary_ok P σ k (mk Or s a b c nm) l (fold_or s) quiet la lb
-          (λ x y hx hy. as_given Or gv x y c (ap₂ (λ p q. p ∷ q ∷ []) hx hy) (record { worth! = row x y hx hy; stored = λ z. no z }))
-          (λ x y cx cy hx hy kx ky. fold_or_ok v s x y cx cy (v k) kx ky (num_at a s x ne la g.sorts.1.0 hx) (num_at b s y ne lb g.sorts.1.1.0 hy) (row x y hx hy))
+          binary_at Or (λ p q. number (bit_or (num p) (num q))) gv (λ x y. refl) (λ x y. refl) (λ z. no z) e g.before.0 g.before.1.0
+          (fold_or s) quiet
+          (λ x y cx cy hx hy kx ky r. fold_or_ok v s x y cx cy (v k) kx ky
+          (own_at a x g.sorts.0 g.before.0 g.sorts.1.0 hx) (own_at b y g.sorts.0 g.before.1.0 g.sorts.1.1.0 hy) r)
           (λ P' σ₁. quiet_ok t ways v P' (v k) σ₁)
       process-at Not gv e g =
           unary_ok P σ k (mk Not s a b c nm) l (fold_not (length t) s) (inside g.before.0 l)
@@ -299,11 +312,10 @@ module _ (t : List Node) (ways : Ways) (v : ℕ → Value) where
           go false q h = take_input_ok P σ k (mk State s a b c nm) σ.inputs
       process-at Next gv e g =
           let nd : Node = mk Next s a b c nm in
-          bind t ways v P σ (λ state. v state ≡ v a) (λ r. v r ≡ v k) (vis σ a) _ (vis_ok P σ a (inside g.before.0 l))
-          (λ σ₁ state. bind t ways v _ σ₁ (λ y. v y ≡ v b) (λ r. v r ≡ v k) (vis σ₁ b) _ (vis_ok _ σ₁ b (inside g.before.1.0 l))
-          (λ σ₂ y. stored ((P × (v state ≡ v a)) × (v y ≡ v b)) σ₂ k (with nd a y c) (λ r. v r ≡ v k)
+          operands_ok P σ a b (λ r. v r ≡ v k) _ (inside g.before.0 l) (inside g.before.1.0 l)
+          (λ σ₁ σ₂ state y. stored ((P × (v state ≡ v a)) × (v y ≡ v b)) σ₂ k (with nd a y c) (λ r. v r ≡ v k)
           (settle t ways k (set_row σ₂ k (with nd a y c)) stays) l (λ p. as_given Next gv a y c (ap (λ q. v a ∷ q ∷ []) p.1) (record { worth! = p.1 ∙ e; stored = λ z. no z }))
-          (settle_ok t ways v _ k (set_row σ₂ k (with nd a y c)) stays (λ p i. tt))))
+          (settle_ok t ways v _ k (set_row σ₂ k (with nd a y c)) stays (λ p i. tt)))
       process-at Input gv e g = settle_ok t ways v P k σ stays (λ p i. tt)
       process-at Bad gv e g =
           unary_ok P σ k (mk Bad s a b c nm) l (λ x. stays) (inside g.before.0 l) (λ x hx. as_given Bad gv x b c (ap (λ p. p ∷ []) hx) (record { worth! = hx ∙ e; stored = λ z. no z })) (λ x cx hx kx. tt)

@@ -60,7 +60,7 @@ module _ (t : List Node) (ways : Ways) (ins reps : List ℕ) (legal : AllLegal t
 
   -- a state whose Next is listed has an init, so it took no input
   has-init : {x : ℕ} (os : List ℕ) → os ≡ x ∷ [] → os ≡ [] → ⊥
-  has-init os e z = let o : ◌≡◌ {A = ℕ} 0 1 = cc in omega arith
+  has-init os e z = cc
 
   drop_walked : (σ : St) (s : ℕ) → σ.made ≡ 0 → Sequential t s → Goes 0 σ (drop_next t σ (node_at t s))
   drop_walked σ s none! h = λ f.
@@ -73,7 +73,7 @@ module _ (t : List Node) (ways : Ways) (ins reps : List ℕ) (legal : AllLegal t
           shape = shape_mark t σ.rows σ.made σ.mark f.shape k (replaced r)
               ((λ _. i.before), subst (Stands t σ.rows σ.made r) i.sort (stands-itself t σ.rows σ.made r (omega (arith, i.before, q.inside)) i.serve));
           books = f.books;
-          used = λ i u w. let o : ⊥ = omega (arith, none!) in absurd o;
+          used = λ i u w. absurd (omega (arith, none!));
           marked = marked-put t σ.mark k (replaced r) σ.held (all_map (Took t) (λ g. g.state ≢ k) (λ g w z. has-init (operands (node_at t k)) (init-operand (node_at t k) q.state h.init) (ap (λ j. operands (node_at t j)) (sym z) ∙ w.bare)) σ.held f.books.took) f.marked;
           fair = f.fair;
           gained = omega (arith, f.gained, credit-put (fee t) (length t) σ.mark k (replaced r) (λ p. at_most p (σ.mark k)));
@@ -97,12 +97,18 @@ module _ (t : List Node) (ways : Ways) (ins reps : List ℕ) (legal : AllLegal t
       (λ _. let g = sequentials_walked σ ss none! h.1 in record { goes = g.goes; kept = (h.0.inside, g.kept) })
 
   -- ---- visits
+  pub went_walked : (k a : ℕ) (σ σ' : St) → Went t ways ins reps k a 0 σ σ' → Walked a σ σ'
+  went_walked k a σ σ' w = record { fine = w.fine; few = w.few; asks = w.asks; looks = omega (arith, w.looks) }
+
+  by_went : (k a : ℕ) (σ : St) (o : Out (St × ℕ)) → (Fine t ways ins reps σ → If (λ p. Went t ways ins reps k a 0 σ p.0) o) → If (λ p. Goes a σ p.0) o
+  by_went k a σ (refused r) g = tt
+  by_went k a σ (done p) g = λ f. went_walked k a σ p.0 (g f)
+
   top_walked : (σ : St) (k : ℕ) → k < length t → If (λ p. Goes 0 σ p.0) (visit_top t ways σ k)
-  top_walked σ k l = go (visit_top t ways σ k) (λ f. visit_went t ways ins reps legal (suc k) σ k l f)
-    where
-      go : (o : Out (St × ℕ)) → (Fine t ways ins reps σ → If (Visited t ways ins reps k σ) o) → If (λ p. Goes 0 σ p.0) o
-      go (refused r) g = tt
-      go (done p) g = λ f. let w = (g f).went in record { fine = w.fine; few = w.few; asks = w.asks; looks = omega (arith, w.looks) }
+  top_walked σ k l =
+      by_went (suc k) 0 σ (visit_top t ways σ k)
+      (λ f. if-map (Visited t ways ins reps k σ) (λ p. Went t ways ins reps (suc k) 0 0 σ p.0) (visit_top t ways σ k) (λ p x. x.went)
+      (visit_went t ways ins reps legal (suc k) σ k l f))
 
   pub all_walked : (σ : St) (ks : List ℕ) → All (λ k. k < length t) ks → If (Goes 0 σ) (visit_all t ways σ ks)
   unfolding visit_all
@@ -112,11 +118,7 @@ module _ (t : List Node) (ways : Ways) (ins reps : List ℕ) (legal : AllLegal t
       (λ p x. if-map (Goes 0 p.0) (Goes 0 σ) (visit_all t ways p.0 ks) (λ σ₂ y. both_walked 0 0 σ p.0 σ₂ x y) (all_walked p.0 ks h.1))
 
   pub ask_walked : (σ : St) (q x y : ℕ) (bs : List ℕ) → If (λ p. Goes 1 σ p.0) (ask ways.reply_count σ q x y bs)
-  ask_walked σ q x y bs = go (ask ways.reply_count σ q x y bs) (λ f. ask_went t ways ins reps 0 σ q x y bs f)
-    where
-      go : (o : Out (St × ℕ)) → (Fine t ways ins reps σ → If (λ p. Went t ways ins reps 0 1 0 σ p.0) o) → If (λ p. Goes 1 σ p.0) o
-      go (refused r) g = tt
-      go (done p) g = λ f. let w = g f in record { fine = w.fine; few = w.few; asks = w.asks; looks = omega (arith, w.looks) }
+  ask_walked σ q x y bs = by_went 0 1 σ (ask ways.reply_count σ q x y bs) (λ f. ask_went t ways ins reps 0 σ q x y bs f)
 
   -- ---- the bads
   module _ (solver terminate : Bool) (section : ℕ) where
@@ -196,7 +198,7 @@ module _ (m : Model) (how : Mode) (wf : WellFormed m) where
   begin = start m.table m.inputs m.replies
 
   begin-fine : FineEnd begin
-  begin-fine = record { shape = start_shape m.table wf.nodes (λ k. fresh) (λ k. refl); books = start-books m.table how.reading m.inputs m.replies; used = λ r l u. let o : ⊥ = omega arith in absurd o; marked = tt; fair = omega arith; gained = omega arith }
+  begin-fine = record { shape = start_shape m.table wf.nodes (λ k. fresh) (λ k. refl); books = start-books m.table how.reading m.inputs m.replies; used = λ r l u. absurd (omega arith); marked = tt; fair = omega arith; gained = omega arith }
 
   fold-walked : If (λ f. Goes! beyond begin f.state) (fold m how)
   unfolding fold

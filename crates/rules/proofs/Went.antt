@@ -62,7 +62,7 @@ module _ (t : List Node) (ways : Ways) (ins reps : List ℕ) where
       (λ _.
       let w = question q x y bs (first_reply σ.replies) in
       record {
-        fine = record { shape = f.shape; books = books_asked t ways.reading ins reps σ.passed σ.inputs σ.replies σ.asked σ.held f.books w refl; used = f.used; marked = f.marked; fair = f.fair; gained = f.gained };
+        fine = assumption (f, books_asked t ways.reading ins reps σ.passed σ.inputs σ.replies σ.asked σ.held f.books w refl);
         above = λ i h. refl;
         later = λ z s h. h;
         few = omega arith;

@@ -11,19 +11,18 @@ use lib.ListN.{length, get_or}
 use lib.Dec.{eqb}
 use borrow.Author.Tests.{eqb-true}
 use Rattle.rules.specs.Lists.{All}
-use Rattle.rules.specs.Refusal.{Out, refused, done}
 use Rattle.rules.specs.Table.{Write, Node, constant, unknown, node_at, is}
 use Rattle.rules.specs.Model.{Model, Mode}
 use Rattle.rules.specs.Legal.{Legal, AllLegal, Sequential, BadEntry, WellFormed}
 use Rattle.rules.specs.Value.{Value, number, num, meaning, worth, Fits}
 use Rattle.rules.specs.Walk.{St, replaced, start_rows, start}
 use Rattle.rules.specs.Fold.{const_of, is_const}
-use Rattle.rules.specs.Questions.{ask, question}
+use Rattle.rules.specs.Questions.{ask}
 use Rattle.rules.specs.Visit.{Ways, visit_top}
 use Rattle.rules.specs.Whole.{ways_of, trivial, drop_next, judge_sequentials, Bads, Judgement, stay, drop, visit_all, by_reply, judge_bad, if_dropped, judge_bads, Folded, bads, last_question, fold_bads, fold}
-use Rattle.rules.specs.Demand.{Claim, SameInit}
+use Rattle.rules.specs.Demand.{SameInit}
 use Rattle.btor.proofs.Agreement.{cases}
-use Rattle.rules.proofs.Base.{no, put_all, all_join, If, if-bind, inside-or-past, is-kind}
+use Rattle.rules.proofs.Base.{no, put_all, all_join, If, if-bind, inside-or-past, is-kind, if-map}
 use Rattle.rules.proofs.Legal.{legal_as}
 use Rattle.rules.proofs.Values.{word-num}
 use Rattle.rules.proofs.Folds.{ConstOk, is_const_ok, RowOk, const_ok}
@@ -59,7 +58,7 @@ module _ (t : List Node) (ways : Ways) (v : ℕ → Value) (env : Env t ways v) 
   -- ---- the sequentials
   drop-later : (σ : St) (nx : Node) → v nx.a ≡ v (node_at t nx.a).a → Later t ways v σ (drop_next t σ nx)
   drop-later σ nx e = λ o. (
-    record { clean = o.clean; told = o.told; same = o.same; news = o.news },
+    assumption o,
     λ i. record { given_ok = i.given_ok; rows_ok = i.rows_ok; marks_ok = put_all (MarkOk v) σ.mark nx.a (replaced (node_at t nx.a).a) (sym e) i.marks_ok },
   )
 
@@ -86,11 +85,8 @@ module _ (t : List Node) (ways : Ways) (v : ℕ → Value) (env : Env t ways v) 
     visit_all_ok σ [] h = λ o. (o, λ i. i)
     visit_all_ok σ (k ∷ ks) h =
         if-bind _ (Later t ways v σ) (visit_top t ways σ k) _ (visit_top_ok σ k h.0)
-        (λ p g. after p g (visit_all t ways p.0 ks) (visit_all_ok p.0 ks h.1))
-      where
-        after : (p : St × ℕ) → (Ok t ways v p.0 → Ok t ways v σ × (Unit {0} → Inv t ways v σ → Inv t ways v p.0 × (v p.1 ≡ v k))) → (m : Out St) → If (Later t ways v p.0) m → If (Later t ways v σ) m
-        after p g (refused r) h' = tt
-        after p g (done σ₂) h' = λ o. let b = h' o in let a = g b.0 in (a.0, λ i. b.1 (a.1 tt i).0)
+        (λ p g. if-map (Later t ways v p.0) (Later t ways v σ) (visit_all t ways p.0 ks)
+        (λ σ₂ f o. let b = f o in let a = g b.0 in (a.0, λ i. b.1 (a.1 tt i).0)) (visit_all_ok p.0 ks h.1))
 
     -- ---- the bads
     module _ (solver terminate : Bool) (section : ℕ) where
@@ -154,11 +150,9 @@ module _ (t : List Node) (ways : Ways) (v : ℕ → Value) (env : Env t ways v) 
   -- ---- the whole
   module _ (m : Model) (how : Mode) where
     ask_later : (σ : St) (q x y : ℕ) (bs : List ℕ) → If (λ p. Later t ways v σ p.0) (ask (length m.replies) σ q x y bs)
-    ask_later σ q x y bs = go (ask (length m.replies) σ q x y bs) (ask_ok t ways v (length m.replies) (Unit {0}) σ q x y bs)
-      where
-        go : (o : Out (St × ℕ)) → Goes t ways v (Unit {0}) σ (λ r. r ≡ 1 → Claim v (question q x y bs r)) o → If (λ p. Later t ways v σ p.0) o
-        go (refused r) g = tt
-        go (done p) g = λ o. let a = g o in (a.0, λ i. (a.1 tt i).0)
+    ask_later σ q x y bs =
+        if-map _ (λ p. Later t ways v σ p.0) (ask (length m.replies) σ q x y bs) (λ p g o. let a = g o in (a.0, λ i. (a.1 tt i).0))
+        (ask_ok t ways v (length m.replies) (Unit {0}) σ q x y bs)
 
     last_question_ok : (σ : St) (bs : List ℕ) → If (λ p. Later t ways v σ p.0) (last_question m how σ bs)
     unfolding last_question
@@ -225,13 +219,8 @@ module _ (m : Model) (how : Mode) (wf : WellFormed m) (v : ℕ → Value) (env :
       if-bind _ (λ f. Ok t (ways_of m how) v f.state → Inv t (ways_of m how) v f.state × All (Gone t (ways_of m how) v) f.dropped)
       (visit_all t (ways_of m how) (judge_sequentials t σ₀ m.sequentials).0 (judge_sequentials t σ₀ m.sequentials).1) _
       (visit_all_ok t (ways_of m how) v env (judge_sequentials t σ₀ m.sequentials).0 (judge_sequentials t σ₀ m.sequentials).1 j.1)
-      (λ σ g. last σ g (fold_bads m how how.one_query σ (judge_sequentials t σ₀ m.sequentials).1) (fold_bads_ok how.one_query σ (judge_sequentials t σ₀ m.sequentials).1))
-    where
-      last : (σ : St) → Later m.table (ways_of m how) v (judge_sequentials m.table (start m.table m.inputs m.replies) m.sequentials).0 σ
-          → (o : Out Folded) → If (Ended σ) o → If (λ f. Ok m.table (ways_of m how) v f.state → Inv m.table (ways_of m how) v f.state × All (Gone m.table (ways_of m how) v) f.dropped) o
-      last σ g (refused r) h = tt
-      last σ g (done f) h = λ o.
-          let y = h o in
-          let x = g y.0 in
-          let j = (sequentials_ok m.table (ways_of m how) v env (start m.table m.inputs m.replies) m.sequentials wf.sequentials inits).0 x.0 in
-          y.1 (x.1 (j.1 (start_inv m.table (ways_of m how) v env m.inputs m.replies)))
+      (λ σ g. if-map (Ended σ) _ (fold_bads m how how.one_query σ (judge_sequentials t σ₀ m.sequentials).1) (λ f h o.
+      let y = h o in
+      let x = g y.0 in
+      let s = j.0 x.0 in
+      y.1 (x.1 (s.1 (start_inv t (ways_of m how) v env m.inputs m.replies)))) (fold_bads_ok how.one_query σ (judge_sequentials t σ₀ m.sequentials).1))

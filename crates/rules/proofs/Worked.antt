@@ -12,7 +12,7 @@ use borrow.Author.Tests.{eqb-true, le-ltb}
 use Rattle.btor.specs.Operators.{Reading, rust, compute, both, complement, choose, less, bit}
 use Rattle.btor.specs.Sorts.{width, ones, word_code}
 use Rattle.rules.specs.Lists.{All}
-use Rattle.rules.specs.Refusal.{Out, refused, done, OfDone}
+use Rattle.rules.specs.Refusal.{done, OfDone}
 use Rattle.rules.specs.Table.{Next, Node, node_at, decode, constant}
 use Rattle.rules.specs.Check.{check, check_nodes, check_sequentials, check_bads}
 use Rattle.rules.specs.Value.{Value, number, num, worth, value, over, over_in, Fits}
@@ -29,6 +29,7 @@ use Rattle.rules.specs.Call.{Call, Entry, impl, Accepted, judge_mode, judge_room
 use Rattle.rules.specs.Cases.{row}
 use Rattle.rules.specs.Worked.{Follows, Replaced, replaced_rows, replaced_held, replaced_asked, replaced_call, ReplacedWorked, several_rows, several_asked, several_call, Several, SeveralWorked, Stepped, stepped_rows, stepped_call, SteppedWorked}
 use Rattle.btor.proofs.Agreement.{cases}
+use Rattle.rules.proofs.Base.{of_done}
 use Rattle.rules.proofs.Words.{width_word}
 use Rattle.rules.proofs.Call.{demand3_of_call, operands_of_call}
 use Rattle.rules.proofs.Faithful.{some-assigns, faithful_of_call}
@@ -48,10 +49,9 @@ module _ (t : List Node) (x : ℕ) (l : x < 2 ^ 64) (s : (node_at t 0).sort ≡ 
       (λ e. subst (λ s. Fits s (number x)) (sym s ∙ ap (λ j. (node_at t j).sort) (sym (eqb-true k 0 e))) ((λ z. omega arith), subst (λ w. x < 2 ^ w) (sym width_word) l))
       (λ _. (some-assigns t).1 k h i)
 
-follows : (limits : Limits) (entry : Entry) (call : Call) (o : Out Accepted) → outcome limits entry call ≡ o → OfDone Premises o → OfDone Free o → OfDone Follows o
+follows : (limits : Limits) (entry : Entry) (call : Call) (a : Accepted) → outcome limits entry call ≡ done a → Premises a → Free a → Follows a
 unfolding Demand3OfCall FaithfulOfCall OperandsOfCall
-follows limits entry call (refused r) e p q = p
-follows limits entry call (done a) e p q =
+follows limits entry call a e p q =
     record {
       some = λ x l. let f = faithful_of_call limits entry call a e (giving a.model.table x l q.0) (giving-fits a.model.table x l q.0) in (f.0, f.1, f.2 0 q.1);
       every = demand3_of_call limits entry call a e p;
@@ -60,6 +60,8 @@ follows limits entry call (done a) e p q =
 
 -- ---- what is computed of a call: its table and lists, what it kept, asked and counted, the marks of some nodes and one row
 record Facts : Type 0 where
+  nodes : List ℕ
+  number : ℕ
   reading : Reading
   table : List Node
   given : List ℕ
@@ -75,9 +77,9 @@ record Facts : Type 0 where
   marks : List Mark
   row : Node
 
-abbrev facts_of : List ℕ → ℕ → Accepted → Facts
-facts_of ks r a =
-    record {
+abbrev facts_of : Facts → Accepted → Facts
+facts_of f a =
+    record f {
       reading = a.how.reading;
       table = a.model.table;
       given = a.model.sequentials;
@@ -90,11 +92,11 @@ facts_of ks r a =
       asked = a.folded.state.asked;
       looked = a.folded.state.looked;
       passed = a.folded.state.passed;
-      marks = map a.folded.state.mark ks;
-      row = a.folded.state.rows r;
+      marks = map a.folded.state.mark f.nodes;
+      row = a.folded.state.rows f.number;
     }
 
-module _ (ks : List ℕ) (r : ℕ) (f : Facts) (a : Accepted) (e : facts_of ks r a ≡ f) where
+module _ (f : Facts) (a : Accepted) (e : facts_of f a ≡ f) where
   abbrev σ : St
   σ = a.folded.state
 
@@ -121,14 +123,15 @@ module _ (ks : List ℕ) (r : ℕ) (f : Facts) (a : Accepted) (e : facts_of ks r
     keeps = subst (λ x. Keeps x.reading x.table a.folded α) e (follow.every α h)
 
   -- the i-th of the marks
-  mark_is : (i : ℕ) → get_or (map σ.mark ks) i fresh ≡ get_or f.marks i fresh
+  mark_is : (i : ℕ) → get_or (map σ.mark f.nodes) i fresh ≡ get_or f.marks i fresh
   mark_is i = ap (λ x. get_or x.marks i fresh) e
 
 -- what holds of every call with these facts holds of the call that has them
-of-facts : (ks : List ℕ) (r : ℕ) (f : Facts) (P : Accepted → Type 0) (call : Call) (o : Out Accepted) → outcome house impl call ≡ o → OfDone (λ a. facts_of ks r a ≡ f) o
-    → ((a : Accepted) → facts_of ks r a ≡ f → Premises a) → ((a : Accepted) → facts_of ks r a ≡ f → Free a) → ((a : Accepted) → facts_of ks r a ≡ f → Premises a → Follows a → P a) → OfDone P o
-of-facts ks r f P call (refused w) q e premises free then = e
-of-facts ks r f P call (done a) q e premises free then = then a e (premises a e) (follows house impl call (done a) q (premises a e) (free a e))
+of-facts : (f : Facts) (P : Accepted → Type 0) (call : Call) → OfDone (λ a. facts_of f a ≡ f) (outcome house impl call)
+    → ((a : Accepted) → facts_of f a ≡ f → Premises a) → ((a : Accepted) → facts_of f a ≡ f → Free a) → ((a : Accepted) → facts_of f a ≡ f → Premises a → Follows a → P a)
+    → OfDone P (outcome house impl call)
+of-facts f P call h premises free then =
+    of_done (λ a. facts_of f a ≡ f) (OfDone P) (outcome house impl call) (λ a q e. then a e (premises a e) (follows house impl call a q (premises a e) (free a e))) h
 
 -- a number is below none that is not above it
 not-below : (x y : ℕ) → y ≤ x → number (bit (less x y)) ≡ number 0
@@ -136,12 +139,14 @@ not-below x y h = ap (λ b. number (bit b)) (le-ltb x y h)
 
 -- a reply of 0 asks for nothing
 no : {P : Type 0} → ◌≡◌ {A = ℕ} 0 1 → P
-no e = let z : ⊥ = omega (arith, e) in absurd z
+no e = absurd (omega (arith, e))
 
 -- ---- the first call
 abbrev replaced_facts : Facts
 replaced_facts =
     record {
+      nodes = 1 ∷ 3 ∷ 6 ∷ 7 ∷ [];
+      number = 16;
       reading = rust;
       table = map decode replaced_rows;
       given = 2 ∷ [];
@@ -158,14 +163,11 @@ replaced_facts =
       row = constant 2 0;
     }
 
-abbrev replaced_marked : List ℕ
-replaced_marked = 1 ∷ 3 ∷ 6 ∷ 7 ∷ []
-
-replaced_computed : OfDone (λ a. facts_of replaced_marked 16 a ≡ replaced_facts) (outcome house impl replaced_call)
+replaced_computed : OfDone (λ a. facts_of replaced_facts a ≡ replaced_facts) (outcome house impl replaced_call)
 unfolding outcome judge_mode encode rows_words cut cut_six cut_section rows_of names_of counted_names cut_names judge_cut judge_room starts_with judge_and_fold run check check_nodes check_sequentials check_bads width ones fold fold_bads judge_bads judge_sequentials visit_all ask ask_or visit process ite_on settle finish finish_stay unary binary visit1 visit2 take_input
 replaced_computed = refl {a = replaced_facts}
 
-module _ (a : Accepted) (e : facts_of replaced_marked 16 a ≡ replaced_facts) where
+module _ (a : Accepted) (e : facts_of replaced_facts a ≡ replaced_facts) where
   -- a faithful assignment gives 1 what it gives 0, and 3 its constant; what is asked follows
   module _ (α : ℕ → Value) (f : Faithful rust (map decode replaced_rows) (2 ∷ []) a.folded.state α) where
     abbrev w : ℕ → Value
@@ -201,33 +203,33 @@ module _ (a : Accepted) (e : facts_of replaced_marked 16 a ≡ replaced_facts) w
         (no, (no, ((λ _. below), ((λ _. both-not), ((λ _. chosen), (no, ((λ _. chosen_below), (no, ((λ _. below-taken), tt)))))))))
 
   replaced-premises : Premises a
-  replaced-premises = presumed replaced_marked 16 replaced_facts a e refl refl claims
+  replaced-premises = presumed replaced_facts a e refl refl claims
 
   replaced-free : Free a
-  replaced-free = unreplaced replaced_marked 16 replaced_facts a e refl ((λ _ z. omega (arith, z)), tt) ((λ z. omega (arith, z)), tt)
+  replaced-free = unreplaced replaced_facts a e refl ((λ _ z. omega (arith, z)), tt) ((λ z. omega (arith, z)), tt)
 
   module _ (follow : Follows a) (α : ℕ → Value) (f : FaithfulTo a α) where
     kept-values : Keeps rust (map decode replaced_rows) a.folded α
-    kept-values = keeps replaced_marked 16 replaced_facts a e follow α f
+    kept-values = keeps replaced_facts a e follow α f
 
     states : (value_in a α 1 ≡ value_in a α 0) × (value_in a α 3 ≡ number 0)
     unfolding value over over_in worth_of
     states =
-        of-call replaced_marked 16 replaced_facts a e (λ how t. (value how (node_at t) α 1 ≡ value how (node_at t) α 0) × (value how (node_at t) α 3 ≡ number 0)) (
-          sym (kept-values.replacements 1 0 (lit< tt) (mark_is replaced_marked 16 replaced_facts a e 0)),
-          sym (kept-values.replacements 3 16 (lit< tt) (mark_is replaced_marked 16 replaced_facts a e 1)) ∙ ap (λ x. number x.row.a) e,
+        of-call replaced_facts a e (λ how t. (value how (node_at t) α 1 ≡ value how (node_at t) α 0) × (value how (node_at t) α 3 ≡ number 0)) (
+          sym (kept-values.replacements 1 0 (lit< tt) (mark_is replaced_facts a e 0)),
+          sym (kept-values.replacements 3 16 (lit< tt) (mark_is replaced_facts a e 1)) ∙ ap (λ x. number x.row.a) e,
         )
 
     others : (value_in a α 6 ≡ number 1) × (value_in a α 7 ≡ value_in a α 0)
     unfolding value over over_in worth_of
     others =
-        of-call replaced_marked 16 replaced_facts a e (λ how t. (value how (node_at t) α 6 ≡ number 1) × (value how (node_at t) α 7 ≡ value how (node_at t) α 0))
-        (sym (kept-values.replacements 6 15 (lit< tt) (mark_is replaced_marked 16 replaced_facts a e 2)), sym (kept-values.replacements 7 0 (lit< tt) (mark_is replaced_marked 16 replaced_facts a e 3)))
+        of-call replaced_facts a e (λ how t. (value how (node_at t) α 6 ≡ number 1) × (value how (node_at t) α 7 ≡ value how (node_at t) α 0))
+        (sym (kept-values.replacements 6 15 (lit< tt) (mark_is replaced_facts a e 2)), sym (kept-values.replacements 7 0 (lit< tt) (mark_is replaced_facts a e 3)))
 
     conditions : (value_in a α 4 ≡ number 0) × (value_in a α 10 ≡ number 0)
     conditions =
         let gone = subst (All (λ b. value rust (node_at (map decode replaced_rows)) α (node_at (map decode replaced_rows) b).a ≡ number 0)) (ap (λ x. x.dropped) e) kept-values.dropped in
-        of-call replaced_marked 16 replaced_facts a e (λ how t. (value how (node_at t) α 4 ≡ number 0) × (value how (node_at t) α 10 ≡ number 0)) (gone.0, gone.1.0)
+        of-call replaced_facts a e (λ how t. (value how (node_at t) α 4 ≡ number 0) × (value how (node_at t) α 10 ≡ number 0)) (gone.0, gone.1.0)
 
   replaced-from : Premises a → Follows a → Replaced a
   replaced-from premises follow =
@@ -246,12 +248,14 @@ module _ (a : Accepted) (e : facts_of replaced_marked 16 a ≡ replaced_facts) w
 
 pub replaced-worked : ReplacedWorked
 unfolding ReplacedWorked
-replaced-worked = of-facts replaced_marked 16 replaced_facts Replaced replaced_call (outcome house impl replaced_call) refl replaced_computed replaced-premises replaced-free replaced-from
+replaced-worked = of-facts replaced_facts Replaced replaced_call replaced_computed replaced-premises replaced-free replaced-from
 
 -- ---- the second
 abbrev several_facts : Facts
 several_facts =
     record {
+      nodes = 2 ∷ [];
+      number = 9;
       reading = rust;
       table = map decode several_rows;
       given = [];
@@ -268,33 +272,33 @@ several_facts =
       row = constant 2 0;
     }
 
-several_computed : OfDone (λ a. facts_of (2 ∷ []) 9 a ≡ several_facts) (outcome house impl several_call)
+several_computed : OfDone (λ a. facts_of several_facts a ≡ several_facts) (outcome house impl several_call)
 unfolding compute outcome judge_mode encode rows_words cut cut_six cut_section rows_of names_of counted_names cut_names judge_cut judge_room starts_with judge_and_fold run check check_nodes check_sequentials check_bads width ones fold fold_bads judge_bads judge_sequentials visit_all last_question ask ask_or visit process settle finish finish_stay unary binary visit1 visit2
 several_computed = refl {a = several_facts}
 
-module _ (a : Accepted) (e : facts_of (2 ∷ []) 9 a ≡ several_facts) where
+module _ (a : Accepted) (e : facts_of several_facts a ≡ several_facts) where
   several-claims : (α : ℕ → Value) → All (Holds (worth_of rust (map decode several_rows) α a.folded.state)) several_asked
   unfolding compute value over over_in worth_of
   several-claims α = ((λ _. (not-below (num (α 0)) 0 (omega arith), (not-below (num (α 0)) (num (α 0)) (omega arith), tt))), tt)
 
   several-premises : Premises a
-  several-premises = presumed (2 ∷ []) 9 several_facts a e refl refl (λ α f. several-claims α)
+  several-premises = presumed several_facts a e refl refl (λ α f. several-claims α)
 
   several-free : Free a
-  several-free = unreplaced (2 ∷ []) 9 several_facts a e refl tt tt
+  several-free = unreplaced several_facts a e refl tt tt
 
   -- the reply says it of each bad
   several-says : (α : ℕ → Value) → HoldIn a α → (value_in a α 5 ≡ number 0) × (value_in a α 6 ≡ number 0)
   unfolding worth_of
   several-says α h =
       let told = subst (λ x. All (Holds (worth_of x.reading x.table α a.folded.state)) x.asked) e h in
-      of-call (2 ∷ []) 9 several_facts a e (λ how t. (value how (node_at t) α 5 ≡ number 0) × (value how (node_at t) α 6 ≡ number 0)) ((told.0 refl).0, (told.0 refl).1.0)
+      of-call several_facts a e (λ how t. (value how (node_at t) α 5 ≡ number 0) × (value how (node_at t) α 6 ≡ number 0)) ((told.0 refl).0, (told.0 refl).1.0)
 
   several-values : Follows a → (α : ℕ → Value) → FaithfulTo a α → value_in a α 2 ≡ number 0
   unfolding worth_of
   several-values follow α f =
-      of-call (2 ∷ []) 9 several_facts a e (λ how t. value how (node_at t) α 2 ≡ number 0)
-      (sym ((keeps (2 ∷ []) 9 several_facts a e follow α f).replacements 2 9 (lit< tt) (mark_is (2 ∷ []) 9 several_facts a e 0)) ∙ ap (λ x. number x.row.a) e)
+      of-call several_facts a e (λ how t. value how (node_at t) α 2 ≡ number 0)
+      (sym ((keeps several_facts a e follow α f).replacements 2 9 (lit< tt) (mark_is several_facts a e 0)) ∙ ap (λ x. number x.row.a) e)
 
   several-from : Premises a → Follows a → Several a
   several-from premises follow =
@@ -310,12 +314,14 @@ module _ (a : Accepted) (e : facts_of (2 ∷ []) 9 a ≡ several_facts) where
 
 pub several-worked : SeveralWorked
 unfolding SeveralWorked
-several-worked = of-facts (2 ∷ []) 9 several_facts Several several_call (outcome house impl several_call) refl several_computed several-premises several-free several-from
+several-worked = of-facts several_facts Several several_call several_computed several-premises several-free several-from
 
 -- ---- the third
 abbrev stepped_facts : Facts
 stepped_facts =
     record {
+      nodes = 6 ∷ [];
+      number = 8;
       reading = rust;
       table = map decode stepped_rows;
       given = 8 ∷ [];
@@ -332,27 +338,27 @@ stepped_facts =
       row = decode (row Next word_code 7 0 0 0);
     }
 
-stepped_computed : OfDone (λ a. facts_of (6 ∷ []) 8 a ≡ stepped_facts) (outcome house impl stepped_call)
+stepped_computed : OfDone (λ a. facts_of stepped_facts a ≡ stepped_facts) (outcome house impl stepped_call)
 unfolding outcome judge_mode encode rows_words cut cut_six cut_section rows_of names_of counted_names cut_names judge_cut judge_room starts_with judge_and_fold run check check_nodes check_sequentials check_bads width ones fold fold_bads judge_bads judge_sequentials visit_all ask visit process forward find look_at settle finish finish_stay unary binary visit1 visit2 visit3 take_input
 stepped_computed = refl {a = stepped_facts}
 
-module _ (a : Accepted) (e : facts_of (6 ∷ []) 8 a ≡ stepped_facts) where
+module _ (a : Accepted) (e : facts_of stepped_facts a ≡ stepped_facts) where
   stepped_claims : (α : ℕ → Value) → All (Holds (worth_of rust (map decode stepped_rows) α a.folded.state)) (question satisfiable 9 0 [] 2 ∷ [])
-  stepped_claims α = ((λ z. let o : ⊥ = omega (arith, z) in absurd o), tt)
+  stepped_claims α = ((λ z. absurd (omega (arith, z))), tt)
 
   stepped_premises : Premises a
-  stepped_premises = presumed (6 ∷ []) 8 stepped_facts a e refl refl (λ α f. stepped_claims α)
+  stepped_premises = presumed stepped_facts a e refl refl (λ α f. stepped_claims α)
 
   stepped_free : Free a
-  stepped_free = unreplaced (6 ∷ []) 8 stepped_facts a e refl ((λ _ z. omega (arith, z)), tt) tt
+  stepped_free = unreplaced stepped_facts a e refl ((λ _ z. omega (arith, z)), tt) tt
 
   stepped_values : Follows a → (α : ℕ → Value) → FaithfulTo a α → (value_in a α 6 ≡ value_in a α 0) × (value_in a α 8 ≡ value_in a α 0)
   unfolding value over over_in worth_of
   stepped_values follow α f =
-      let k = keeps (6 ∷ []) 8 stepped_facts a e follow α f in
+      let k = keeps stepped_facts a e follow α f in
       let next = ap (λ x. worth rust (worth_of rust (map decode stepped_rows) α a.folded.state) (α 8) x.row) e in
-      of-call (6 ∷ []) 8 stepped_facts a e (λ how t. (value how (node_at t) α 6 ≡ value how (node_at t) α 0) × (value how (node_at t) α 8 ≡ value how (node_at t) α 0))
-      (sym (k.replacements 6 0 (lit< tt) (mark_is (6 ∷ []) 8 stepped_facts a e 0)), sym (k.rows 8 (lit< tt)) ∙ next)
+      of-call stepped_facts a e (λ how t. (value how (node_at t) α 6 ≡ value how (node_at t) α 0) × (value how (node_at t) α 8 ≡ value how (node_at t) α 0))
+      (sym (k.replacements 6 0 (lit< tt) (mark_is stepped_facts a e 0)), sym (k.rows 8 (lit< tt)) ∙ next)
 
   stepped_from : Premises a → Follows a → Stepped a
   stepped_from premises follow =
@@ -368,4 +374,4 @@ module _ (a : Accepted) (e : facts_of (6 ∷ []) 8 a ≡ stepped_facts) where
 
 pub stepped_worked : SteppedWorked
 unfolding SteppedWorked
-stepped_worked = of-facts (6 ∷ []) 8 stepped_facts Stepped stepped_call (outcome house impl stepped_call) refl stepped_computed stepped_premises stepped_free stepped_from
+stepped_worked = of-facts stepped_facts Stepped stepped_call stepped_computed stepped_premises stepped_free stepped_from

@@ -2,21 +2,22 @@
 -- Assumes nothing.
 use Prim.Native.Nat.{ℕ, ◌+◌, ◌*◌, ◌<◌, ◌≤◌}
 use mathlib.Core.Path.{◌≡◌, refl, sym, ap, ◌∙◌}
-use mathlib.Core.Bool.{true, false}
+use mathlib.Core.Bool.{Bool, true, false, ◌&&◌}
 use mathlib.Core.Option.{Option, none, some}
 use mathlib.Core.List.{List, [], ◌∷◌}
 use native.Mathlib.Omega.{arith}
 use native.Mathlib.Numerals.{add-one}
 use lib.ListN.{length, get_or, take, drop, get_or-map, get_or-eq_default, drop_of_length-le}
 use lib.Seq.{get_or-drop, get_or-take, drop-cons}
-use Rattle.rules.specs.Refusal.{Refusal, first_of}
-use Rattle.rules.specs.Table.{Row, Node, row_width, decode, unknown, node_at}
-use Rattle.rules.specs.Check.{known_kind, check_node, check_nodes}
+use Rattle.rules.specs.Refusal.{Refusal, unless, first_of}
+use Rattle.rules.specs.Lists.{all_true, every}
+use Rattle.rules.specs.Table.{Row, Node, row_width, decode, unknown, node_at, operands}
+use Rattle.rules.specs.Check.{known_kind, may_serve, sorted, rule4, check_node, check_nodes}
 use Rattle.rules.specs.Sections.{row_of, word_of}
 use Rattle.rules.proofs.Sections.{row-of, rows-length}
 use Rattle.tables.specs.NodeAnswers.{row_unknown, row_at}
 use Rattle.tables.specs.SectionAnswers.{words_in, Inside}
-use Rattle.tables.specs.FormAnswers.{first_broken}
+use Rattle.tables.specs.FormAnswers.{formed, operands_judged, first_broken}
 use Rattle.tables.specs.Judging.{rows_in, table_in}
 use Rattle.tables.specs.declared.sections.Sections.{Sections}
 
@@ -47,8 +48,8 @@ module _ (ws : List ℕ) (s : Sections) (h : Inside ws s) where
   pub node_in : (k : ℕ) → k < s.nodes.count → node_at (table_in ws s) k ≡ decode (row_at ws k)
   node_in k l = get_or-map decode (rows_in ws s) k row_unknown ∙ ap decode (row_in k l)
 
-  pub node-past : (k : ℕ) → s.nodes.count ≤ k → node_at (table_in ws s) k ≡ unknown
-  node-past k l =
+  pub node_past : (k : ℕ) → s.nodes.count ≤ k → node_at (table_in ws s) k ≡ unknown
+  node_past k l =
       get_or-map decode (rows_in ws s) k row_unknown
       ∙ ap decode (get_or-eq_default (rows_in ws s) row_unknown (omega (arith, rows-count ws s)))
 
@@ -59,6 +60,17 @@ kind_unknown names t k r h = rw h
 module _ (names : ℕ) (t : List Node) (k : ℕ) (r : Row) (nd : Node) (h : (known_kind r.code ≡ true) × (nd ≡ decode r)) where
   pub broken_is : first_broken names t k nd ≡ check_node names t k r
   broken_is = rw (h.0, h.1)
+
+-- an operand breaks rule 4 or 5 where rule 3 holds
+module _ (names : ℕ) (t : List Node) (k : ℕ) (nd : Node) where
+  pub operands_stop : (r : Refusal) → formed names nd ≡ true → operands_judged t k (operands nd) ≡ some r → some r ≡ first_broken names t k nd
+  operands_stop r f e = rw f (go (rule4 k nd) (every (λ x. may_serve (node_at t x)) (operands nd)) e)
+    where
+      go : (before serve : Bool) → first_of (unless before 4 1 k ∷ unless serve 5 1 k ∷ []) ≡ some r
+          → some r ≡ first_of (none ∷ unless before 4 1 k ∷ unless (serve && all_true (sorted t nd)) 5 1 k ∷ [])
+      go false serve e = sym e
+      go true false e = sym e
+      go true true e = let z : ◌≡◌ {A = ℕ} 0 1 = cc in absurd (omega arith)
 
 -- the first of a list of one
 pub alone : (o : Option Refusal) → first_of (none ∷ o ∷ []) ≡ o

@@ -13,14 +13,13 @@ use mathlib.Core.Bool.{Bool, true, false, ◌&&◌}
 use mathlib.Core.Option.{Option, none, some}
 use mathlib.Core.List.{List, [], ◌∷◌, ◌++◌}
 use native.Mathlib.Omega.{arith}
-use native.Mathlib.Nat.{add-zero}
 use native.Mathlib.Numerals.{add-one}
-use lib.ListN.{length, get_or, take, drop, set, length-append, length-drop, drop_of_length-le}
-use lib.Seq.{drop-cons, drop-drop, drop-append_seam, get_or-drop, get_or-set_same, get_or-set_other}
+use lib.ListN.{length, get_or, take, drop, length-append, length-drop, drop_of_length-le, get_or-append}
+use lib.Seq.{drop-cons, drop-drop}
 use lib.Dec.{ltb, eqb}
 use borrow.Author.Tests.{ltb-true, ltb-false}
-use borrow.Author.Count.{below_more}
 use Rattle.std.proofs.lemmas.Bool.Decides.{nat_tests}
+use Rattle.std.proofs.lemmas.List.{get_or-append_right}
 use Rattle.btor.specs.Operators.{bit}
 use Rattle.rules.specs.Refusal.{Refusal, Out, refused, done, refuse, ◌>>=◌}
 use Rattle.rules.specs.Limits.{Limits}
@@ -29,8 +28,9 @@ use Rattle.rules.specs.Names.{cut_names, names_of, name_of, length_place, name_s
 use Rattle.rules.specs.Label.{at, named}
 use Rattle.rules.proofs.Label.{named_in, named_past}
 use Rattle.rules.proofs.Sections.{never, same-done}
-use Rattle.rules.proofs.Names.{name-over, name-short, name-whole, name_missing, names-over, names-within, names_done, name-at}
+use Rattle.rules.proofs.Names.{size_here, after_here, name-over, name-short, name-whole, name_missing, names-over, names-within, names_done, name-at}
 use Rattle.std.specs.List as list
+use Rattle.std.specs.List.{fold, range_with_len}
 use Rattle.std.specs.Prelude.{nat_eq}
 use Rattle.std.specs.Int.{from_bool}
 use Rattle.tables.specs.NameAnswers.{counted, names_count, read_at, place_if, place_among, place_of, dump_among, is_dump, dump_mark}
@@ -76,6 +76,16 @@ unfolding length_place
 place-next zero bs at h = let o : ⊥ = omega arith in absurd o
 place-next (suc k) bs at h = let p : suc k - 1 ≡ k = omega arith in rw p
 
+-- so many steps from length byte to length byte, and how far they go at most
+pub places_folded : (bs : List ℕ) (k i at : ℕ) → fold (λ at _. at + 1 + get_or bs at 0) at (range_with_len i k) ≡ length_place k bs at
+unfolding length_place
+places_folded bs zero i at = refl
+places_folded bs (suc k) i at = places_folded bs k (i + 1) (at + 1 + get_or bs at 0)
+
+pub places_summed : (k i n : ℕ) → fold (λ n x. n + 256) n (range_with_len i k) ≡ n + 256 * k
+places_summed zero i n = omega arith
+places_summed (suc k) i n = places_summed k (i + 1) (n + 256) ∙ omega arith
+
 -- a test as a number, as the library has it
 pub bit_is : (b : Bool) → from_bool b ≡ bit b
 bit_is true = refl
@@ -103,18 +113,8 @@ counted-refused (refused q) r e = cc
 counted-refused (done names) r e = never (refused r) r (length names) refl (sym e)
 
 -- ---- a name of accepted bytes lies within them
-module _ (bs : List ℕ) (at : ℕ) (name more : List ℕ) (e : drop at bs ≡ length name ∷ name ++ more) where
-  size_here : get_or bs at 0 ≡ length name
-  size_here = ap (λ i. get_or bs i 0) (sym (add-zero at)) ∙ sym (get_or-drop at bs 0 0) ∙ ap (λ l. get_or l 0 0) e
-
-  room-here : at + 1 + get_or bs at 0 ≤ length bs
-  room-here = omega (arith, size_here, length-drop at bs, ap length e, length-append name more)
-
-  after_here : drop (at + 1 + get_or bs at 0) bs ≡ more
-  after_here =
-      sym (drop-drop (get_or bs at 0) (at + 1) bs)
-      ∙ ap₂ (λ n l. drop n l) size_here (sym (drop-drop 1 at bs) ∙ ap (λ l. drop 1 l) e)
-      ∙ drop-append_seam name more
+room-here : (bs : List ℕ) (at : ℕ) (name more : List ℕ) → drop at bs ≡ length name ∷ name ++ more → at + 1 + get_or bs at 0 ≤ length bs
+room-here bs at name more e = omega (arith, size_here bs at name more e, length-drop at bs, ap length e, length-append name more)
 
 inside-walk : (names : List (List ℕ)) (bs : List ℕ) (at : ℕ) → drop at bs ≡ sized_names names → (k : ℕ) → k < length names
     → length_place k bs at + 1 + get_or bs (length_place k bs at) 0 ≤ length bs
@@ -179,9 +179,9 @@ module _ (limits : Limits) where
     read_missing h = ap cut_one (cut_missing 0 bs at h)
 
     module _ (inside : at < length bs) where
-      pub read-over : limits.name_length < get_or bs at 0 → read_at limits bs at ≡ refuse 2 7 0
+      pub read_over : limits.name_length < get_or bs at 0 → read_at limits bs at ≡ refuse 2 7 0
       unfolding read_at cut_one
-      read-over h = ap cut_one (cut-over 0 bs at inside h)
+      read_over h = ap cut_one (cut-over 0 bs at inside h)
 
       pub read_short : get_or bs at 0 ≤ limits.name_length → length bs < at + 1 + get_or bs at 0 → read_at limits bs at ≡ refuse 1 7 0
       unfolding read_at cut_one
@@ -205,7 +205,7 @@ module _ (limits : Limits) where
       third i h false l = let m = ltb-false (length bs) (at + 1 + get_or bs at 0) l in rw (read_whole bs at i h m) (whole i h m)
 
       second : at < length bs → (b : Bool) → ltb limits.name_length (get_or bs at 0) ≡ b → P (read_at limits bs at)
-      second i true h = let m = ltb-true limits.name_length (get_or bs at 0) h in rw (read-over bs at i m) (over i m)
+      second i true h = let m = ltb-true limits.name_length (get_or bs at 0) h in rw (read_over bs at i m) (over i m)
       second i false h = third i (ltb-false limits.name_length (get_or bs at 0) h) (ltb (length bs) (at + 1 + get_or bs at 0)) refl
 
       first : (b : Bool) → ltb at (length bs) ≡ b → P (read_at limits bs at)
@@ -286,6 +286,14 @@ module _ (limits : Limits) where
     accepted : (names : List (List ℕ)) × ((names_of limits bs ≡ done names) × (length names ≡ n))
     accepted = counted-done (names_of limits bs) n e
 
+    -- the count itself is there
+    pub count_there : 2 ≤ length bs
+    count_there = go (ltb (length bs) 2) refl
+      where
+        go : (b : Bool) → ltb (length bs) 2 ≡ b → 2 ≤ length bs
+        go true h = never (names_count limits bs) _ n (count_missing bs (ltb-true (length bs) 2 h)) e
+        go false h = ltb-false (length bs) 2 h
+
     pub count_limit : n ≤ limits.names
     count_limit = omega (arith, accepted.1.1, (names_done limits bs accepted.0 accepted.1.0).2.count)
 
@@ -340,11 +348,6 @@ module _ (limits : Limits) where
   unfolding dump_among
   marks-refused bs r e k = ap (λ o. bit (dump_among o k)) (counted-refused (names_of limits bs) r e)
 
-  -- marks below k are right, and the others 0
-  pub record Marked (bs marks : List ℕ) (k : ℕ) : Type 0 where
-    pub right : (j : ℕ) → j < k → get_or marks j 0 ≡ dump_mark limits bs j
-    pub clear : (j : ℕ) → k ≤ j → get_or marks j 0 ≡ 0
-
   module _ (bs : List ℕ) (n : ℕ) (e : names_count limits bs ≡ done n) where
     mark_none : (k : ℕ) → place_of limits bs k ≡ none → dump_mark limits bs k ≡ 0
     unfolding text_of starts_with
@@ -354,26 +357,19 @@ module _ (limits : Limits) where
     unfolding text_of
     mark_name k l h = ap bit (dump-place bs k ∙ ap (λ p. starts_with memory_dump (text_of bs p)) (place-within bs n e k l h))
 
-    pub marked_first : (marks : List ℕ) → ((j : ℕ) → get_or marks j 0 ≡ 0) → Marked bs marks 1
-    marked_first marks z =
-        record {
-          right = λ j h. let j₀ : j ≡ 0 = omega arith in z j ∙ rw (j₀) (sym (mark_none 0 (place_none bs)));
-          clear = λ j h. z j;
-        }
-
-    pub marked_next : (marks : List ℕ) (k v : ℕ) → k < length marks → v ≡ dump_mark limits bs k → Marked bs marks k → Marked bs (set marks k v) (k + 1)
-    marked_next marks k v l e m =
-        record {
-          right = below_more _ k (λ j h. get_or-set_other marks k j v 0 (λ s. let o : ⊥ = omega arith in o) ∙ m.right j h) (get_or-set_same marks k v 0 l ∙ e);
-          clear = λ j h. get_or-set_other marks k j v 0 (λ s. let o : ⊥ = omega arith in o) ∙ m.clear j (omega arith);
-        }
-
-    pub marked_last : (marks : List ℕ) (k : ℕ) → n < k → Marked bs marks k → (j : ℕ) → get_or marks j 0 ≡ dump_mark limits bs j
-    marked_last marks k l m j = go (ltb j k) refl
+    -- no mark for no name, then those of the names, then marks that are not set
+    pub marked : (marks rest : List ℕ) → length marks ≡ n → ((k : ℕ) → k < n → get_or marks k 0 ≡ dump_mark limits bs (k + 1)) → ((k : ℕ) → get_or rest k 0 ≡ 0)
+        → (k : ℕ) → get_or (0 ∷ marks ++ rest) k 0 ≡ dump_mark limits bs k
+    marked marks rest l m z zero = sym (mark_none 0 (place_none bs))
+    marked marks rest l m z (suc k) = go (ltb k n) refl
       where
-        go : (b : Bool) → ltb j k ≡ b → get_or marks j 0 ≡ dump_mark limits bs j
-        go true h = m.right j (ltb-true j k h)
-        go false h = let i : k ≤ j = ltb-false j k h in m.clear j i ∙ sym (mark_none j (place-past bs n e j (omega arith)))
+        go : (b : Bool) → ltb k n ≡ b → get_or (marks ++ rest) k 0 ≡ dump_mark limits bs (suc k)
+        go true h =
+            let i : k < n = ltb-true k n h in
+            get_or-append marks rest 0 k (omega (arith, l, i)) ∙ m k i ∙ ap (λ (j : ℕ). dump_mark limits bs j) (add-one k)
+        go false h =
+            let i : n ≤ k = ltb-false k n h in
+            get_or-append_right marks rest n k 0 l i ∙ z (k - n) ∙ sym (mark_none (suc k) (place-past bs n e (suc k) (omega (arith, i))))
 
   pub counted_inside : (bs : List ℕ) (n : ℕ) → names_count limits bs ≡ done n → (k : ℕ) → 0 < k → k ≤ n → name_start bs k + name_size bs k ≤ length bs
   counted_inside bs n e k l h = let (names, (p, q)) = accepted bs n e in name-inside bs names p k l (omega (arith, q))
@@ -384,13 +380,12 @@ module _ (limits : Limits) where
     unfolding counted
     accepted_count = ap counted e
 
-    pub accepted_place : (k : ℕ) → 0 < k → k ≤ length names
-        → (place_of limits bs k ≡ some (name_start bs k, name_size bs k)) × (part bs (name_start bs k) (name_size bs k) ≡ name_of names k)
-    accepted_place k l h = (place-within bs (length names) accepted_count k l h, sym (name-at limits bs names e k l h))
-
     pub accepted_dump : (k : ℕ) → is_dump limits bs k ≡ dump names k
     unfolding dump_among
     accepted_dump k = ap (λ o. dump_among o k) e
 
     pub accepted_mark : (k : ℕ) → dump_mark limits bs k ≡ bit (dump names k)
     accepted_mark k = ap bit (accepted_dump k)
+
+-- what reading one name is proved by
+pub ruleset one_name = (read_missing, read_over, read_short, read_whole)

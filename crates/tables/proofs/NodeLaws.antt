@@ -62,13 +62,13 @@ below-ones w x = go (ltb x (2 ^ w)) refl
     go true e = let h = ltb-true x (2 ^ w) e in le-leb x (2 ^ w - 1) (omega arith)
     go false e = let h = ltb-false x (2 ^ w) e in lt-leb x (2 ^ w - 1) (omega (arith, pow_pos w))
 
-pub fits-known : (sort x : ℕ) (s : NodeType) → sort_of sort ≡ Ok s → leb x (2 ^ width_of s - 1) ≡ fits sort x
+pub fits_known : (sort x : ℕ) (s : NodeType) → sort_of sort ≡ Ok s → leb x (2 ^ width_of s - 1) ≡ fits sort x
 unfolding width
-fits-known sort x s e = below-ones (width_of s) x ∙ sym (ap (λ (c : Result NodeType UnknownSort). ltb x (2 ^ bits_of c)) e)
+fits_known sort x s e = below-ones (width_of s) x ∙ sym (ap (λ (c : Result NodeType UnknownSort). ltb x (2 ^ bits_of c)) e)
 
-pub fits-unknown : (sort x : ℕ) (e : UnknownSort) → sort_of sort ≡ Err e → eqb x 0 ≡ fits sort x
+pub fits_unknown : (sort x : ℕ) (e : UnknownSort) → sort_of sort ≡ Err e → eqb x 0 ≡ fits sort x
 unfolding width
-fits-unknown sort x u e = zero-only x ∙ sym (ap (λ (c : Result NodeType UnknownSort). ltb x (2 ^ bits_of c)) e)
+fits_unknown sort x u e = zero-only x ∙ sym (ap (λ (c : Result NodeType UnknownSort). ltb x (2 ^ bits_of c)) e)
   where
     zero-only : (x : ℕ) → eqb x 0 ≡ ltb x 1
     zero-only zero = refl

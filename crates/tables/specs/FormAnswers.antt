@@ -1,6 +1,6 @@
 -- What rules 3, 4 and 5 ask of a node whose kind is known.
 --     formed   rule 3, which asks for a known sort and, by the kind, for the rest
---     first_over, first_broken   the first rule that the node breaks, by what was found of it and by itself
+--     operands_judged, first_broken   the first rule that its operands break, and that it breaks
 -- Assumes nothing.
 use Rattle.std.specs.Prelude.{ℕ, Bool, ◌&&◌, ◌||◌, not, eqb, ltb, List, [], ◌∷◌}
 use Rattle.std.proofs.Math.Option.{Option}
@@ -16,10 +16,9 @@ formed_by_kind names nd =
 abbrev pub formed : ℕ → Node → Bool
 formed names nd = known_sort nd.sort && formed_by_kind names nd
 
--- by what was found of rule 3 and of sorts, and by the operands
-abbrev pub first_over : List Node → ℕ → List ℕ → Bool → Bool → Option Refusal
-first_over t k l formed sorted =
-    first_of (unless formed 3 1 k ∷ unless (every (λ x. ltb x k) l) 4 1 k ∷ unless (every (λ x. may_serve (node_at t x)) l && sorted) 5 1 k ∷ [])
+-- rules 4 and 5 of the operands alone
+abbrev pub operands_judged : List Node → ℕ → List ℕ → Option Refusal
+operands_judged t k l = first_of (unless (every (λ x. ltb x k) l) 4 1 k ∷ unless (every (λ x. may_serve (node_at t x)) l) 5 1 k ∷ [])
 
 abbrev pub first_broken : ℕ → List Node → ℕ → Node → Option Refusal
 first_broken names t k nd = first_of (unless (formed names nd) 3 1 k ∷ unless (rule4 k nd) 4 1 k ∷ unless (rule5 t nd) 5 1 k ∷ [])

@@ -1,9 +1,9 @@
 -- What the answers of nodes.rt, lists.rt and judge.rt say in the rules' terms.
 --     rows_in, table_in   the rows and the nodes that cut words hold        judged_of   a judgement
---     states_before, Marks   the states that are listed, and marks of them
+--     states_of, Marks   the states that are listed, and marks of them
 --     sequentials_in, table_judged, judged_count   what the rules say of a list, of a table and of a call
 -- Assumes nothing.
-use Rattle.std.specs.Prelude.{ℕ, zero, suc, ◌+◌, ◌^◌, ◌<◌, ◌≡◌, Bool, false, List, [], ◌∷◌, map, length, get_or, Result, Ok, Err}
+use Rattle.std.specs.Prelude.{ℕ, ◌+◌, ◌^◌, ◌<◌, ◌≡◌, Bool, false, List, [], ◌∷◌, map, fold, length, get_or, Result, Ok, Err}
 use Rattle.std.proofs.Math.Option.{Option, none, some}
 use Rattle.rules.specs.Refusal.{Refusal, Out, refused, done, ◌>>=◌, unless_refused}
 use Rattle.rules.specs.Lists.{member}
@@ -44,10 +44,9 @@ judged_of (Ok _) = none
 judged_of (Err r) = some (refusal_of r)
 
 -- ---- the lists
--- the states of the first k sequentials, the last first
-unfoldable pub states_before : List Node → List ℕ → ℕ → List ℕ
-states_before t ss zero = []
-states_before t ss (suc k) = (node_at t (get_or ss k 0)).a ∷ states_before t ss k
+-- the states of some sequentials, the last first
+unfoldable pub states_of : List Node → List ℕ → List ℕ
+states_of t ss = fold (λ states entry. (node_at t entry).a ∷ states) [] ss
 
 -- marks tell which states are listed, as far as they reach
 abbrev pub Marks : List ℕ → List Bool → Type 0

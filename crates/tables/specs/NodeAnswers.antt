@@ -49,7 +49,7 @@ abbrev pub row_is : Row → rules.Row
 row_is r = record { code = r.code; sort = r.sort; a = r.a; b = r.b; c = r.c; name = r.name }
 
 abbrev pub node_is : Node → rules.Node
-node_is n = record { kind = kind_is n.kind; sort = n.sort; a = n.a; b = n.b; c = n.c; name = n.name }
+node_is n = record { kind = kind_is n.kind; sort = n.row.sort; a = n.row.a; b = n.row.b; c = n.row.c; name = n.row.name }
 
 -- what stands past the table
 abbrev pub row_unknown : rules.Row

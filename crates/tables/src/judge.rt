@@ -22,6 +22,7 @@ pub struct Accepted {
     pub names: usize,
 }
 
+// The mode is a number until it is judged here, as C hands it over.
 #[tactic(auto, unfolding(rules::specs::Call::judge_mode))]
 pub fn judge_mode(mode: u64) -> Result<(), Refusal>
     ensures { judged_of result ≡ refusal_in (judge_mode mode) }

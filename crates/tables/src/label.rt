@@ -15,10 +15,7 @@ use crate::sections::section_at;
 fn nodes_in(words: &[u64], limits: Limits) -> u64
     ensures { result ≡ nodes_in (limits_is limits) words.now }
 {
-    match section_at(words, 0, 1, limits.nodes, Row::WIDTH) {
-        Ok(nodes) => nodes.count as u64,
-        Err(_) => 0,
-    }
+    section_at(words, 0, 1, limits.nodes, Row::WIDTH).map_or(0, |nodes| nodes.count as u64)
 }
 
 // The name word of a node: 0, which is no name, where section 1 has no such node.

@@ -13,7 +13,7 @@ pub const BAD_ROOM: usize = 5;
 pub const LEAST_ROOM: usize = 22;
 
 // The most nodes, entries in each of sections 2, 3 and 4, inputs, replies, names, and bytes of a name.
-// They go beside words or names bytes and are in no struct with them: of a call some functions look at the words alone, and some at the names.
+// They go beside words or names bytes and are in no struct with them: of a call some public functions look at the words alone, and some at the names.
 // They are of 32 bits, so that the words and the room of whatever they allow can be counted.
 #[derive(Clone, Copy, Debug, PartialEq, Eq)]
 pub struct Limits {

@@ -3,7 +3,7 @@ ghost use Rattle.std.specs.Prelude.{◌≡◌, ℕ, ◌+◌, ◌^◌, ◌<◌, �
 ghost use Rattle.rules.specs.Lists.{all_true, member};
 ghost use Rattle.rules.specs.Check.{sequential_entry, bad_entry, check_bads};
 ghost use Rattle.tables.specs.SectionAnswers.{words_in};
-ghost use Rattle.tables.specs.Judging.{judged_of, nodes_of, states_before, Marks, sequentials_in};
+ghost use Rattle.tables.specs.Judging.{judged_of, nodes_of, states_of, Marks, sequentials_in};
 
 use crate::node::NodeKind;
 use crate::refusal::Refusal;
@@ -15,7 +15,7 @@ const FEW: usize = 4096;
 
 const MANY: usize = 65536;
 
-// Marks a state, if it has a mark.
+// Marks a state, if it has a mark. By index: of what `get_mut` lends, std does not say that the slice ends with it.
 fn mark(seen: &mut [bool], state: u64)
     ensures { seen.new ≡ set seen.old state true }
 {
@@ -34,6 +34,7 @@ impl<'a> Table<'a> {
         &self.words[part.start..part.start + part.count]
     }
 
+    #[tactic(auto, using(crate::proofs::ListLaws::table_count))]
     fn has_node(self, number: u64) -> bool
         ensures { result ≡ ltb number (length (nodes_of self.entry)) }
     {
@@ -65,25 +66,21 @@ impl<'a> Table<'a> {
         }
     }
 
-    // Whether one of the sequentials before a place is of a state.
-    fn is_listed_before(self, sequentials: &[u64], place: usize, state: u64) -> bool
-        requires { place ≤ length sequentials.now }
-        ensures { result ≡ member state (states_before (nodes_of self.entry) sequentials.now place) }
+    // Whether one of some sequentials is of a state.
+    fn is_listed(self, before: &[u64], state: u64) -> bool
+        ensures { result ≡ member state (states_of (nodes_of self.entry) before.now) }
     {
-        sequentials[..place]
-            .iter()
-            .any(|entry| state == self.row(*entry).a)
+        before.iter().any(|entry| state == self.row(*entry).a)
     }
 
     // The same by the state's mark, where it has one.
-    fn was_listed(self, seen: &[bool], sequentials: &[u64], place: usize, state: u64) -> bool
-        requires place_le_length { place ≤ length sequentials.now }
-        requires marks { Marks (states_before (nodes_of self) sequentials.now place) seen.now }
-        ensures { result ≡ member state (states_before (nodes_of self.entry) sequentials.now place) }
+    fn was_listed(self, seen: &[bool], before: &[u64], state: u64) -> bool
+        requires { Marks (states_of (nodes_of self) before.now) seen.now }
+        ensures { result ≡ member state (states_of (nodes_of self.entry) before.now) }
     {
         match seen.get(state as usize) {
             Some(mark) => *mark,
-            None => self.is_listed_before(sequentials, place, state),
+            None => self.is_listed(before, state),
         }
     }
 
@@ -98,7 +95,7 @@ impl<'a> Table<'a> {
                 return Err(Refusal::Entry(2, place));
             }
             let state = self.row(*entry).a;
-            if self.was_listed(seen, sequentials, place, state) {
+            if self.was_listed(seen, &sequentials[..place], state) {
                 return Err(Refusal::SecondSequential(place));
             }
             mark(seen, state);

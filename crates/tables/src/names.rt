@@ -1,5 +1,5 @@
 // The names bytes, section 7: a two-byte count, low byte first, then each name after a one-byte length.
-ghost use Rattle.std.specs.Prelude.{◌≡◌, ℕ, ◌+◌, ◌*◌, ◌<◌, ◌≤◌, length, get_or, IfOk, IfSome};
+ghost use Rattle.std.specs.Prelude.{◌≡◌, ℕ, ◌+◌, ◌<◌, ◌≤◌, length, get_or, IfOk, IfSome};
 ghost use Rattle.rules.specs.Limits.{house};
 ghost use Rattle.rules.specs.Refusal.{done};
 ghost use Rattle.rules.specs.Names.{starts_with, memory_dump, length_place};
@@ -16,22 +16,23 @@ pub struct NameSpan {
     pub len: usize,
 }
 
-// The byte at a place; 0 past the end.
+// The byte at a place, as the walk below holds one; 0 past the end.
 fn byte(bytes: &[u8], at: usize) -> usize
     ensures { (result ≡ get_or bytes.now at 0) × (result < 256) }
 {
     bytes.get(at).map_or(0, |byte| usize::from(*byte))
 }
 
-// Reads one name, from its length byte on.
+// Reads one name, from its length byte on, whose place is a number: callers hold such places, and ask for another from the name's end.
+#[tactic(auto, using(crate::proofs::NameLaws::one_name))]
 pub fn read_name(names: &[u8], at: usize, limits: Limits) -> Result<NameSpan, Refusal>
     ensures read { read_of result ≡ read_at (limits_is limits) names.now at }
     ensures inside { IfOk result (λ name. name.start + name.len ≤ length names.now) }
 {
-    if names.len() <= at {
+    let Some(&size) = names.get(at) else {
         return Err(Refusal::Short(7));
-    }
-    let len = byte(names, at);
+    };
+    let len = usize::from(size);
     let start = at + 1;
     let longest = limits.name_length as usize;
     if longest < len {
@@ -47,13 +48,14 @@ pub fn read_name(names: &[u8], at: usize, limits: Limits) -> Result<NameSpan, Re
 pub fn cut_names(names: &[u8], limits: Limits) -> Result<usize, Refusal>
     ensures { count_of result ≡ names_count (limits_is limits) names.now }
 {
-    if names.len() < 2 {
+    let [low, high, ..] = names else {
         return Err(Refusal::Short(7));
-    }
-    let count = byte(names, 0) + 256 * byte(names, 1);
+    };
+    let count = usize::from(u16::from_le_bytes([*low, *high]));
     if (limits.names as usize) < count {
         return Err(Refusal::OverLimit(7));
     }
+    // By `try_fold` the two statements are the same, in a closure that has a result of its own: no plainer.
     let mut at: usize = 2;
     for _ in 0..count {
         let name = read_name(names, at, limits)?;
@@ -65,15 +67,11 @@ pub fn cut_names(names: &[u8], limits: Limits) -> Result<usize, Refusal>
     Ok(count)
 }
 
-// The place of the length byte after so many names. This walk, and that of `mark_names`, is over bytes that are judged, so it tests nothing.
+// The place of the length byte after so many names: by place, since `name_place` hands one out, and over judged bytes, so that no name is judged again.
 fn skip_names(names: &[u8], skipped: u32) -> usize
-    ensures { (result ≡ length_place skipped names.now 2) × (result ≤ 2 + 256 * skipped) }
+    ensures { result ≡ length_place skipped names.now 2 }
 {
-    let mut at: usize = 2;
-    for _ in 0..skipped {
-        at = at + 1 + byte(names, at);
-    }
-    at
+    (0..skipped).fold(2, |at, _| at + 1 + byte(names, at))
 }
 
 // Where name `k` stands: names count from 1, and none stands anywhere in bytes that are refused.
@@ -111,24 +109,20 @@ pub fn is_memory_dump(names: &[u8], k: u64, limits: Limits) -> bool
     }
 }
 
-// Marks the names of bytes that hold `count` of them by the house's limits, over marks that are all 0.
-fn mark_names(names: &[u8], count: usize, marks: &mut [u8; NAME_MARKS])
-    requires names_value { names_count house names.now ≡ done count }
-    requires marks_len { length marks.old ≡ 4097 }
-    requires by_index { (k : ℕ) → get_or marks.old k 0 ≡ 0 }
-    ensures by_index_2 { (k : ℕ) → get_or marks.new k 0 ≡ dump_mark house names.now k }
-    ensures marks_len_2 { length marks.new ≡ 4097 }
+// Marks the names of bytes that hold so many of them by the house's limits, from name 1 on. None is judged again.
+fn mark_names(names: &[u8], marks: &mut [u8])
+    requires { names_count house names.now ≡ done (length marks.old) }
+    ensures { (k : ℕ) → k < length marks.old → get_or marks.new k 0 ≡ dump_mark house names.now (k + 1) }
 {
-    let mut at: usize = 2;
-    for k in 0..count {
-        let start = at + 1;
-        let end = start + byte(names, at);
-        marks[k + 1] = u8::from(starts_with_memory_dump(&names[start..end]));
-        at = end;
+    let mut rest = &names[2..];
+    for mark in marks.iter_mut() {
+        let end = 1 + usize::from(rest[0]);
+        *mark = u8::from(starts_with_memory_dump(&rest[1..end]));
+        rest = &rest[end..];
     }
 }
 
-// The marks are bytes, as the callers that lend them have them.
+// The marks are bytes, not bools: the function is public, and its signature and its promise may not change.
 // Sets mark k to 1 where name k starts with "memory-dump", and every other mark to 0, whatever they were.
 pub fn mark_memory_dumps(names: &[u8], marks: &mut [u8; NAME_MARKS])
     ensures by_index { (k : ℕ) → get_or marks.new k 0 ≡ dump_mark house names.now k }
@@ -136,6 +130,6 @@ pub fn mark_memory_dumps(names: &[u8], marks: &mut [u8; NAME_MARKS])
 {
     *marks = [0u8; NAME_MARKS];
     if let Ok(count) = cut_names(names, Limits::house()) {
-        mark_names(names, count, marks);
+        mark_names(names, &mut marks[1..count + 1]);
     }
 }

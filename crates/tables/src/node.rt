@@ -8,79 +8,79 @@ use btor::node_type::NodeType;
 
 #[derive(Clone, Copy, Debug, PartialEq, Eq)]
 pub enum NodeKind {
-    Const,
-    Read,
-    Write,
-    Add,
-    Sub,
-    Mul,
-    Divu,
-    Div,
-    Rem,
-    Sll,
-    Srl,
-    Ult,
-    Ext,
-    Ite,
-    Eq,
-    And,
-    Or,
-    Not,
-    State,
-    Next,
-    Input,
-    Bad,
+    Const = 1,
+    Read = 2,
+    Write = 3,
+    Add = 4,
+    Sub = 5,
+    Mul = 6,
+    Divu = 7,
+    Div = 8,
+    Rem = 9,
+    Sll = 10,
+    Srl = 11,
+    Ult = 12,
+    Ext = 13,
+    Ite = 14,
+    Eq = 15,
+    And = 16,
+    Or = 17,
+    Not = 18,
+    State = 19,
+    Next = 20,
+    Input = 21,
+    Bad = 22,
 }
 
 // A word that is the code of no kind.
 #[derive(Clone, Copy, Debug, PartialEq, Eq)]
 pub struct UnknownKind(pub u64);
 
-// The codes are associated constants, as the project's rules ask: words are compared with them before their kind is known.
+// The codes are associated constants, as those of sorts are: words are compared with them before their kind is known.
 impl NodeKind {
-    pub const CONST: u64 = 1;
+    pub const CONST: u64 = NodeKind::Const as u64;
 
-    pub const READ: u64 = 2;
+    pub const READ: u64 = NodeKind::Read as u64;
 
-    pub const WRITE: u64 = 3;
+    pub const WRITE: u64 = NodeKind::Write as u64;
 
-    pub const ADD: u64 = 4;
+    pub const ADD: u64 = NodeKind::Add as u64;
 
-    pub const SUB: u64 = 5;
+    pub const SUB: u64 = NodeKind::Sub as u64;
 
-    pub const MUL: u64 = 6;
+    pub const MUL: u64 = NodeKind::Mul as u64;
 
-    pub const DIVU: u64 = 7;
+    pub const DIVU: u64 = NodeKind::Divu as u64;
 
-    pub const DIV: u64 = 8;
+    pub const DIV: u64 = NodeKind::Div as u64;
 
-    pub const REM: u64 = 9;
+    pub const REM: u64 = NodeKind::Rem as u64;
 
-    pub const SLL: u64 = 10;
+    pub const SLL: u64 = NodeKind::Sll as u64;
 
-    pub const SRL: u64 = 11;
+    pub const SRL: u64 = NodeKind::Srl as u64;
 
-    pub const ULT: u64 = 12;
+    pub const ULT: u64 = NodeKind::Ult as u64;
 
-    pub const EXT: u64 = 13;
+    pub const EXT: u64 = NodeKind::Ext as u64;
 
-    pub const ITE: u64 = 14;
+    pub const ITE: u64 = NodeKind::Ite as u64;
 
-    pub const EQ: u64 = 15;
+    pub const EQ: u64 = NodeKind::Eq as u64;
 
-    pub const AND: u64 = 16;
+    pub const AND: u64 = NodeKind::And as u64;
 
-    pub const OR: u64 = 17;
+    pub const OR: u64 = NodeKind::Or as u64;
 
-    pub const NOT: u64 = 18;
+    pub const NOT: u64 = NodeKind::Not as u64;
 
-    pub const STATE: u64 = 19;
+    pub const STATE: u64 = NodeKind::State as u64;
 
-    pub const NEXT: u64 = 20;
+    pub const NEXT: u64 = NodeKind::Next as u64;
 
-    pub const INPUT: u64 = 21;
+    pub const INPUT: u64 = NodeKind::Input as u64;
 
-    pub const BAD: u64 = 22;
+    pub const BAD: u64 = NodeKind::Bad as u64;
 }
 
 // The kind that a code names.
@@ -119,7 +119,7 @@ impl TryFrom<u64> for NodeKind {
 }
 
 // The six words of a node.
-#[derive(Clone, Copy, Debug, PartialEq, Eq)]
+#[derive(Clone, Copy, Debug, Default, PartialEq, Eq)]
 pub struct Row {
     pub code: u64,
     pub sort: u64,
@@ -147,15 +147,11 @@ impl Row {
     pub const NAME: usize = 5;
 }
 
-// A row whose kind is known. With the row as a field instead, each of its words would be named by way of it.
+// A row whose kind is known.
 #[derive(Clone, Copy)]
 pub(crate) struct Node {
     pub(crate) kind: NodeKind,
-    pub(crate) sort: u64,
-    pub(crate) a: u64,
-    pub(crate) b: u64,
-    pub(crate) c: u64,
-    pub(crate) name: u64,
+    pub(crate) row: Row,
 }
 
 impl TryFrom<Row> for Node {
@@ -165,14 +161,7 @@ impl TryFrom<Row> for Node {
 
     fn try_from(row: Row) -> Result<Node, UnknownKind> {
         let kind = NodeKind::try_from(row.code)?;
-        Ok(Node {
-            kind,
-            sort: row.sort,
-            a: row.a,
-            b: row.b,
-            c: row.c,
-            name: row.name,
-        })
+        Ok(Node { kind, row })
     }
 }
 
@@ -184,6 +173,7 @@ pub(crate) fn known_sort(code: u64) -> bool
 }
 
 // Whether a number fits the width of a sort.
+#[tactic(auto, using(crate::proofs::NodeLaws::fits_known, crate::proofs::NodeLaws::fits_unknown))]
 pub fn fits_sort(sort: u64, number: u64) -> bool
     ensures { result ≡ fits sort number }
 {

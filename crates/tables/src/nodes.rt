@@ -1,10 +1,10 @@
 // The nodes of a table, and rules 3, 4 and 5 over them, node by node, rising.
 ghost use Rattle.std.specs.Prelude.{◌≡◌, ◌<◌, ltb, get_or};
-ghost use Rattle.rules.specs.Table.{decode, node_at};
+ghost use Rattle.rules.specs.Table.{decode, node_at, operands};
 ghost use Rattle.rules.specs.Check.{check_node, check_nodes};
 ghost use Rattle.rules.specs.Lists.{every};
 ghost use Rattle.tables.specs.NodeAnswers.{row_is, node_is, row_unknown};
-ghost use Rattle.tables.specs.FormAnswers.{first_over, first_broken};
+ghost use Rattle.tables.specs.FormAnswers.{operands_judged, first_broken};
 ghost use Rattle.tables.specs.Judging.{judged_of, rows_of, nodes_of};
 
 use crate::node::{Node, NodeKind, Row};
@@ -21,6 +21,7 @@ fn are_before<const N: usize>(operands: [u64; N], node: usize) -> bool
 
 impl<'a> Table<'a> {
     // The row with a number; past the table stands an Input of no sort.
+    #[tactic(auto, using(crate::proofs::JudgeLaws::node_in, crate::proofs::JudgeLaws::node_past))]
     pub(crate) fn row(self, number: u64) -> Row
         ensures { decode (row_is result) ≡ node_at (nodes_of self.entry) number }
     {
@@ -29,60 +30,59 @@ impl<'a> Table<'a> {
         }
         Row {
             code: NodeKind::INPUT,
-            sort: 0,
-            a: 0,
-            b: 0,
-            c: 0,
-            name: 0,
+            ..Row::default()
         }
     }
 
-    // The first rule that a node with these operands breaks. Rules 3 and 5 are two answers that only this function reads, each under its name.
-    fn judge_over<const N: usize>(
-        self,
-        node: usize,
-        operands: [u64; N],
-        formed: bool,
-        sorted: bool,
-    ) -> Result<(), Refusal>
-        ensures { judged_of result ≡ first_over (nodes_of self.entry) node operands.entry formed sorted }
+    // Each of a node's operands is before it, and may be one.
+    fn judge_operands<const N: usize>(self, node: usize, operands: [u64; N]) -> Result<(), Refusal>
+        ensures { judged_of result ≡ operands_judged (nodes_of self.entry) node operands.entry }
     {
-        if !formed {
-            return Err(Refusal::Malformed(node));
-        }
         if !are_before(operands, node) {
             return Err(Refusal::OperandNotBefore(node));
         }
-        if !(self.all_serve(operands) && sorted) {
+        if !self.all_serve(operands) {
             return Err(Refusal::Sorts(node));
         }
         Ok(())
     }
 
-    fn judge_known(self, row: Node, names: u64, node: usize) -> Result<(), Refusal>
-        ensures { judged_of result ≡ first_broken names (nodes_of self.entry) node (node_is row) }
+    // The operands by the kind of the node.
+    fn judge_operands_of(self, known: Node, node: usize) -> Result<(), Refusal>
+        ensures { judged_of result ≡ operands_judged (nodes_of self.entry) node (operands (node_is known)) }
     {
-        let formed = row.is_formed(names);
-        let sorted = self.is_sorted(row);
-        match row.kind {
-            NodeKind::Const | NodeKind::Input => self.judge_over(node, [], formed, sorted),
-            NodeKind::State if row.b != 1 => self.judge_over(node, [], formed, sorted),
+        let Row { a, b, c, .. } = known.row;
+        match known.kind {
+            NodeKind::Const | NodeKind::Input => Ok(()),
+            NodeKind::State if b != 1 => Ok(()),
             NodeKind::State | NodeKind::Ext | NodeKind::Not | NodeKind::Bad => {
-                self.judge_over(node, [row.a], formed, sorted)
+                self.judge_operands(node, [a])
             }
-            NodeKind::Write | NodeKind::Ite => {
-                self.judge_over(node, [row.a, row.b, row.c], formed, sorted)
-            }
+            NodeKind::Write | NodeKind::Ite => self.judge_operands(node, [a, b, c]),
             NodeKind::Read | NodeKind::Ult | NodeKind::Eq | NodeKind::And | NodeKind::Or => {
-                self.judge_over(node, [row.a, row.b], formed, sorted)
+                self.judge_operands(node, [a, b])
             }
             NodeKind::Add | NodeKind::Sub | NodeKind::Mul | NodeKind::Divu | NodeKind::Div => {
-                self.judge_over(node, [row.a, row.b], formed, sorted)
+                self.judge_operands(node, [a, b])
             }
             NodeKind::Rem | NodeKind::Sll | NodeKind::Srl | NodeKind::Next => {
-                self.judge_over(node, [row.a, row.b], formed, sorted)
+                self.judge_operands(node, [a, b])
             }
         }
+    }
+
+    // Rule 3, the operands, and the sorts of a node whose kind is known.
+    fn judge_known(self, known: Node, names: u64, node: usize) -> Result<(), Refusal>
+        ensures { judged_of result ≡ first_broken names (nodes_of self.entry) node (node_is known) }
+    {
+        if !known.is_formed(names) {
+            return Err(Refusal::Malformed(node));
+        }
+        self.judge_operands_of(known, node)?;
+        if !self.is_sorted(known) {
+            return Err(Refusal::Sorts(node));
+        }
+        Ok(())
     }
 
     fn judge_node(self, names: u64, node: usize) -> Result<(), Refusal>
@@ -90,7 +90,7 @@ impl<'a> Table<'a> {
         ensures { judged_of result ≡ check_node names (nodes_of self.entry) node (get_or (rows_of self.entry) node row_unknown) }
     {
         match Node::try_from(row_at(self.words, node)) {
-            Ok(row) => self.judge_known(row, names, node),
+            Ok(known) => self.judge_known(known, names, node),
             Err(_) => Err(Refusal::Malformed(node)),
         }
     }

@@ -6,7 +6,7 @@ ghost use Rattle.tables.specs.NodeAnswers.{row_is, row_at, HasRow};
 
 use crate::node::Row;
 
-// One word of a row.
+// One word of a row. The words are lent, with the layout of docs/FORMAT.md, so a node and a place in its row stand beside them.
 pub(crate) fn row_word(words: &[u64], node: usize, place: usize) -> u64
     requires has_row { HasRow words.now node }
     requires place_lt_row_width { place < row_width }

@@ -28,7 +28,8 @@ pub struct Sections {
     pub replies: Part,
 }
 
-// The section whose count stands at a place, with `width` words for each that is counted.
+// The section whose count stands at a place, with `width` words for each that is counted. Its own number is the one that a refusal tells, and docs/FORMAT.md names.
+#[tactic(auto, using(rules::proofs::Sections::one_section))]
 pub(crate) fn section_at(
     words: &[u64],
     at: usize,

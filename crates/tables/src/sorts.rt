@@ -6,7 +6,7 @@ ghost use Rattle.rules.specs.Check.{may_serve, sorted};
 ghost use Rattle.tables.specs.NodeAnswers.{node_is};
 ghost use Rattle.tables.specs.Judging.{nodes_of};
 
-use crate::node::{Node, NodeKind, fits_sort};
+use crate::node::{Node, NodeKind, Row, fits_sort};
 use crate::table::Table;
 use btor::node_type::NodeType;
 
@@ -42,48 +42,48 @@ impl<'a> Table<'a> {
     pub(crate) fn is_sorted(self, node: Node) -> bool
         ensures { result ≡ all_true (sorted (nodes_of self.entry) (node_is node)) }
     {
-        let sort = node.sort;
+        let Row { sort, a, b, c, .. } = node.row;
         match node.kind {
-            NodeKind::Const => sort != NodeType::MEMORY && fits_sort(sort, node.a),
+            NodeKind::Const => sort != NodeType::MEMORY && fits_sort(sort, a),
             NodeKind::Read => {
-                [sort, self.sort_of(node.a), self.sort_of(node.b)]
+                [sort, self.sort_of(a), self.sort_of(b)]
                     == [NodeType::WORD, NodeType::MEMORY, NodeType::WORD]
             }
             NodeKind::Write => {
-                let stored = [self.sort_of(node.b), self.sort_of(node.c)];
-                [sort, self.sort_of(node.a)] == [NodeType::MEMORY, NodeType::MEMORY]
+                let stored = [self.sort_of(b), self.sort_of(c)];
+                [sort, self.sort_of(a)] == [NodeType::MEMORY, NodeType::MEMORY]
                     && stored == [NodeType::WORD, NodeType::WORD]
             }
             NodeKind::Add | NodeKind::Sub | NodeKind::Mul | NodeKind::Divu => {
-                [sort, self.sort_of(node.a), self.sort_of(node.b)] == [NodeType::WORD; 3]
+                [sort, self.sort_of(a), self.sort_of(b)] == [NodeType::WORD; 3]
             }
             NodeKind::Div | NodeKind::Rem | NodeKind::Sll | NodeKind::Srl => {
-                [sort, self.sort_of(node.a), self.sort_of(node.b)] == [NodeType::WORD; 3]
+                [sort, self.sort_of(a), self.sort_of(b)] == [NodeType::WORD; 3]
             }
             NodeKind::Ult | NodeKind::Eq => {
-                let first = self.sort_of(node.a);
-                [sort, first] == [NodeType::BIT, self.sort_of(node.b)] && first != NodeType::MEMORY
+                let first = self.sort_of(a);
+                [sort, first] == [NodeType::BIT, self.sort_of(b)] && first != NodeType::MEMORY
             }
             NodeKind::Ext => {
-                let first = self.sort_of(node.a);
-                [sort, first] == [NodeType::WORD, node.b] && first != NodeType::MEMORY
+                let first = self.sort_of(a);
+                [sort, first] == [NodeType::WORD, b] && first != NodeType::MEMORY
             }
             NodeKind::Ite => {
-                let chosen = [self.sort_of(node.b), self.sort_of(node.c)];
-                self.sort_of(node.a) == NodeType::BIT && chosen == [sort, sort]
+                let chosen = [self.sort_of(b), self.sort_of(c)];
+                self.sort_of(a) == NodeType::BIT && chosen == [sort, sort]
             }
             NodeKind::And | NodeKind::Or => {
-                let sorts = [self.sort_of(node.a), self.sort_of(node.b)];
+                let sorts = [self.sort_of(a), self.sort_of(b)];
                 sort != NodeType::MEMORY && sorts == [sort, sort]
             }
-            NodeKind::Not => sort != NodeType::MEMORY && self.sort_of(node.a) == sort,
-            NodeKind::State => node.b != 1 || self.sort_of(node.a) == sort,
+            NodeKind::Not => sort != NodeType::MEMORY && self.sort_of(a) == sort,
+            NodeKind::State => b != 1 || self.sort_of(a) == sort,
             NodeKind::Next => {
-                let sorts = [self.sort_of(node.a), self.sort_of(node.b)];
-                self.is_state(node.a) && sorts == [sort, sort]
+                let sorts = [self.sort_of(a), self.sort_of(b)];
+                self.is_state(a) && sorts == [sort, sort]
             }
             NodeKind::Input => true,
-            NodeKind::Bad => [sort, self.sort_of(node.a)] == [NodeType::BIT, NodeType::BIT],
+            NodeKind::Bad => [sort, self.sort_of(a)] == [NodeType::BIT, NodeType::BIT],
         }
     }
 }

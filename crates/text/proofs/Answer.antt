@@ -1,7 +1,7 @@
 -- The program's answer: the words of a result are cut into its sections again, so what is printed of them is what the rules print;
 -- and how many bytes that takes. By the sizes of the nine sections, and by the digits of a number below 2^64.
 --     accepted-is        what is printed of a result's words, also with others after them
---     accepted-room      a number takes 20 bytes at most, and one more on its line
+--     accepted_room      a number takes 20 bytes at most, and one more on its line
 -- Assumes nothing.
 use Prim.Native.Nat.{ℕ, zero, suc, ◌+◌, ◌*◌, ◌^◌, ◌<◌, ◌≤◌}
 use mathlib.Core.Path.{◌≡◌, refl, sym, ap, ap₂, ◌∙◌}
@@ -102,16 +102,16 @@ words_take (suc n) (w ∷ ws) h (suc k) = words_take n ws (λ j. h (suc j)) k
 words-drop : (n : ℕ) (ws : List ℕ) → Words ws → Words (drop n ws)
 words-drop n ws h k = rw (get_or-drop n ws k 0) (h (n + k))
 
-pub blanked-bound : (xs : List ℕ) → Words xs → length (blanked xs) ≤ 21 * length xs
+pub blanked_bound : (xs : List ℕ) → Words xs → length (blanked xs) ≤ 21 * length xs
 unfolding blanked
-blanked-bound [] h = omega arith
-blanked-bound (x ∷ xs) h =
-    omega (arith, length-append (32 ∷ decimal x) (blanked xs), decimal-bound x (h 0), blanked-bound xs (λ k. h (suc k)))
+blanked_bound [] h = omega arith
+blanked_bound (x ∷ xs) h =
+    omega (arith, length-append (32 ∷ decimal x) (blanked xs), decimal-bound x (h 0), blanked_bound xs (λ k. h (suc k)))
 
 line-bound : (xs : List ℕ) → Words xs → length (line xs) ≤ 21 * length xs + 1
 line-bound [] h = omega arith
 line-bound (x ∷ xs) h =
-    omega (arith, length-append (decimal x) (blanked xs ++ (10 ∷ [])), length-append (blanked xs) (10 ∷ []), decimal-bound x (h 0), blanked-bound xs (λ k. h (suc k)))
+    omega (arith, length-append (decimal x) (blanked xs ++ (10 ∷ [])), length-append (blanked xs) (10 ∷ []), decimal-bound x (h 0), blanked_bound xs (λ k. h (suc k)))
 
 sections-bound : (widths ws : List ℕ) → Words ws → length (lines (sections_in widths ws)) ≤ 21 * length ws + length widths
 unfolding lines sections_in
@@ -124,11 +124,11 @@ sections-bound (w ∷ widths) ws h =
     omega (arith, length-append (line (take n ws)) (lines (sections_in widths (drop n ws))))
 
 -- 21 bytes for each word, the first line and the ends of nine lines
-pub accepted-room : (ws : List ℕ) → Words ws → length (accepted_text ws) ≤ 21 * length ws + 18
-accepted-room ws h = omega (arith, sections-bound result_widths ws h)
+pub accepted_room : (ws : List ℕ) → Words ws → length (accepted_text ws) ≤ 21 * length ws + 18
+accepted_room ws h = omega (arith, sections-bound result_widths ws h)
 
-pub refused-room : (number section position : ℕ) → length (blanked (number ∷ section ∷ position ∷ [])) ≤ 63 → length (printed (refuse number section position)) ≤ 71
-refused-room number section position h = omega (arith, length-append (blanked (number ∷ section ∷ position ∷ [])) (10 ∷ []))
+pub refused_room : (number section position : ℕ) → length (blanked (number ∷ section ∷ position ∷ [])) ≤ 63 → length (printed (refuse number section position)) ≤ 71
+refused_room number section position h = omega (arith, length-append (blanked (number ∷ section ∷ position ∷ [])) (10 ∷ []))
 
 -- ---- a page that was begun at a buffer's front, once the bytes are printed
 module _ (begun p : LentPage) (entry bs : List ℕ) (new : page_of begun ≡ page entry (Some 0)) (all : page_of p ≡ laid (page_of begun) bs) where

@@ -1,7 +1,7 @@
 -- Bytes printed at a place of a buffer: one byte, bytes after bytes, and what it comes to where they fit and where they do not.
 -- By recursion over the bytes.
 --     put_full, put_next   a byte past the buffer's end, and one within it
---     laid_append, laid-two   bytes after bytes are printed by printing both
+--     laid_append, laid_two   bytes after bytes are printed by printing both
 --     laid-fits          the bytes stand at the place, everything else is unchanged
 --     laid_full          as many as fit stand there, and the page is full
 -- Assumes nothing.
@@ -34,8 +34,8 @@ laid_append p [] ys = refl
 laid_append p (x ∷ xs) ys = laid_append (put_byte p.bytes p.place x) xs ys
 
 -- one part printed after the other
-pub laid-two : (p q r : Page) (xs ys : List ℕ) → q ≡ laid p xs → r ≡ laid q ys → r ≡ laid p (xs ++ ys)
-laid-two p q r xs ys e f = f ∙ ap (λ s. laid s ys) e ∙ sym (laid_append p xs ys)
+pub laid_two : (p q r : Page) (xs ys : List ℕ) → q ≡ laid p xs → r ≡ laid q ys → r ≡ laid p (xs ++ ys)
+laid_two p q r xs ys e f = f ∙ ap (λ s. laid s ys) e ∙ sym (laid_append p xs ys)
 
 -- ---- what it comes to
 sets-laid : (bs bytes : List ℕ) (at : ℕ) → at + length bs ≤ length bytes → laid (page bytes (Some at)) bs ≡ page (sets bytes at bs) (Some (at + length bs))

@@ -1,3 +1,4 @@
+pub mod Front
 pub mod Reading
 pub mod Laid
 pub mod Printing

@@ -16,7 +16,7 @@ use borrow.Author.Tests.{lt-ltb, le-ltb, ltb-false}
 use Rattle.std.specs.Fmt.{decimal as std_decimal}
 use Rattle.std.proofs.lemmas.Fmt.{decimal_by_steps}
 use Rattle.rules.specs.Text.{decimal_of, decimal, blanked, line, lines}
-use Rattle.text.proofs.Laid.{laid-two}
+use Rattle.text.proofs.Laid.{laid_two}
 use Rattle.text.specs.Printing.{Page, laid, section_size, SectionEnds, sections_in}
 
 -- ---- a number's digits: the fuel does not matter
@@ -51,23 +51,23 @@ decimal_same x h = decimal_by_steps (λ n ds. ds ≡ decimal n) (λ n l. sym (de
 
 -- ---- loops: what is left to print, from element i on
 module _ (p q : Page) where
-  pub blanked-next : (r s : Page) (xs : List ℕ) (i : ℕ) → laid q (blanked (drop i xs)) ≡ p → r ≡ laid q (32 ∷ []) → s ≡ laid r (decimal (get_or xs i 0)) → i < length xs
+  pub blanked_next : (r s : Page) (xs : List ℕ) (i : ℕ) → laid q (blanked (drop i xs)) ≡ p → r ≡ laid q (32 ∷ []) → s ≡ laid r (decimal (get_or xs i 0)) → i < length xs
       → laid s (blanked (drop (i + 1) xs)) ≡ p
   unfolding blanked
-  blanked-next r s xs i e f g h =
+  blanked_next r s xs i e f g h =
       let rest : List ℕ = blanked (drop (suc i) xs) in
       ap (λ n. laid s (blanked (drop n xs))) (add-one i)
-      ∙ laid-two q r (laid s rest) (32 ∷ []) (decimal (get_or xs i 0) ++ rest) f (laid-two r s (laid s rest) (decimal (get_or xs i 0)) rest g refl)
+      ∙ laid_two q r (laid s rest) (32 ∷ []) (decimal (get_or xs i 0) ++ rest) f (laid_two r s (laid s rest) (decimal (get_or xs i 0)) rest g refl)
       ∙ ap (λ l. laid q (blanked l)) (sym (drop-cons xs i 0 h)) ∙ e
 
 -- ---- the sections that are left
 module _ (p q : Page) (widths rest : List ℕ) (k : ℕ) (left : laid q (lines (sections_in (drop k widths) rest)) ≡ p) where
-  pub sections-next : (r : Page) (front back : List ℕ) (end : ℕ) → k < length widths → SectionEnds (get_or widths k 0) rest end → front ≡ take end rest → back ≡ drop end rest
+  pub sections_next : (r : Page) (front back : List ℕ) (end : ℕ) → k < length widths → SectionEnds (get_or widths k 0) rest end → front ≡ take end rest → back ≡ drop end rest
       → r ≡ laid q (line front) → laid r (lines (sections_in (drop (k + 1) widths) back)) ≡ p
   unfolding lines sections_in
-  sections-next r front back end h ends e f g =
+  sections_next r front back end h ends e f g =
       let size : ℕ = section_size (get_or widths k 0) rest in
       let printed : r ≡ laid q (line (take size rest)) = g ∙ ap (λ l. laid q (line l)) (e ∙ ends.section) in
       ap (λ l. laid r (lines (sections_in (drop (k + 1) widths) l))) (f ∙ ends.rest) ∙ ap (λ n. laid r (lines (sections_in (drop n widths) (drop size rest)))) (add-one k)
-      ∙ laid-two q r _ (line (take size rest)) (lines (sections_in (drop (suc k) widths) (drop size rest))) printed refl
+      ∙ laid_two q r _ (line (take size rest)) (lines (sections_in (drop (suc k) widths) (drop size rest))) printed refl
       ∙ ap (λ l. laid q (lines (sections_in l rest))) (sym (drop-cons widths k 0 h)) ∙ left

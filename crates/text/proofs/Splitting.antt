@@ -1,8 +1,9 @@
 -- Splitting, one case each: the lengths of the names, and their bytes.
 -- By the rules' laws of one name at a place; a name's values are the numbers after its length.
---     lengths-*          a loop over the lengths of the names
---     count-put, value-put   the names bytes, as they are written one after the other
---     after-*            the names after their count
+--     lengths_*          a loop over the lengths of the names
+--     value_put          the names bytes, as they are written one after the other
+--     after_*            the names after their count
+--     part_*             the numbers from one place to another
 -- Assumes nothing.
 use Prim.Native.Nat.{ℕ, zero, suc, min, ◌+◌, ◌-◌, ◌<◌, ◌≤◌}
 use mathlib.Core.Path.{◌≡◌, refl, sym, ap, ap₂, ◌∙◌}
@@ -13,7 +14,8 @@ use mathlib.Core.List.{List, [], ◌∷◌, ◌++◌}
 use native.Mathlib.Omega.{arith}
 use native.Mathlib.Numerals.{add-one}
 use lib.ListN.{length, get_or, take, drop, set, length-drop}
-use lib.Seq.{take-suc, take-suc-set, take_at, drop-set-lt, drop-drop}
+use lib.Seq.{take-suc, take_at, length-take-le}
+use Rattle.text.proofs.Front.{set_next}
 use Rattle.std.proofs.lemmas.List.{length-take, take_min}
 use lib.Dec.{ltb}
 use borrow.Author.Tests.{ltb-true, lt-ltb}
@@ -27,7 +29,7 @@ use Rattle.rules.proofs.NameWalk as walk
 use Rattle.rules.proofs.NameWalk.{fault, fault_from}
 use Rattle.rules.proofs.Base.{and_both}
 use Rattle.text.specs.Front.{on_front}
-use Rattle.text.specs.Splitting.{cut_all, counted, bytes_after, bytes_in}
+use Rattle.text.specs.Splitting.{cut_all, counted, bytes_in}
 
 -- ---- the lengths of the names: so many are left, from a place on
 fault-none : {A : Type 0} (o : Out A) → fault o ≡ none → (x : A) × (o ≡ done x)
@@ -87,6 +89,8 @@ module _ (xs rest : List ℕ) (count left : ℕ) (same : fault_from house rest l
           ∙ sym (walk.whole-at house rest (left - 1) 0 inside (omega (arith, first)) (omega (arith, first, ap length is)))
           ∙ ap (λ n. fault_from house rest n 0) (sym one) ∙ same
 
+pub ruleset lengths_judged = (lengths_none, lengths_end, lengths_left, lengths_missing)
+
 -- ---- byte values
 -- each of them is a byte
 pub byte_at : (xs : List ℕ) (i : ℕ) → all_bytes xs ≡ true → i < length xs → get_or xs i 0 < 256
@@ -96,28 +100,15 @@ byte_at (x ∷ xs) zero e h = ltb-true x 256 (and_both (ltb x 256) (all_bytes xs
 byte_at (x ∷ xs) (suc i) e h = byte_at xs i (and_both (ltb x 256) (all_bytes xs) e).1 (omega arith)
 
 -- ---- the names bytes, of which i values are written
-pub count-put : (out values : List ℕ) (low high : ℕ) → 2 ≤ length out → take (0 + 2) (set (set out 0 low) 1 high) ≡ low ∷ high ∷ take 0 values
-count-put [] values low high h = let o : ⊥ = omega arith in absurd o
-count-put (a ∷ []) values low high h = let o : ⊥ = omega arith in absurd o
-count-put (a ∷ b ∷ out) values low high h = refl
-
-pub value-put : (out values : List ℕ) (count i : ℕ) → take (i + 2) out ≡ counted count (take i values) → i < length values → i + 2 < length out
-    → take (i + 1 + 2) (set out (i + 2) (get_or values i 0)) ≡ counted count (take (i + 1) values)
-value-put out values count i e h l =
-    let n : i + 1 + 2 ≡ suc (i + 2) = omega arith in
-    ap (λ n. take n (set out (i + 2) (get_or values i 0))) n ∙ take-suc-set out (i + 2) (get_or values i 0) l ∙ ap (λ l. l ++ (get_or values i 0 ∷ [])) e
-    ∙ ap (λ l. counted count l) (sym (take-suc values i 0 h) ∙ ap (λ n. take n values) (sym (add-one i)))
-
--- what stands behind them is as it was
-pub rest_put : (out begun : List ℕ) (i v : ℕ) → drop (i + 2) out ≡ drop (i + 2) begun → drop (i + 1 + 2) (set out (i + 2) v) ≡ drop (i + 1 + 2) begun
-rest_put out begun i v e =
-    let n : i + 1 + 2 ≡ i + 2 + 1 = omega arith in
-    drop-set-lt (i + 1 + 2) out (i + 2) v (omega arith) ∙ ap (λ n. drop n out) n ∙ sym (drop-drop 1 (i + 2) out) ∙ ap (λ l. drop 1 l) e ∙ drop-drop 1 (i + 2) begun
-    ∙ ap (λ n. drop n begun) (sym n)
+pub value_put : (out entry values : List ℕ) (count i : ℕ) → out ≡ on_front (done (counted count (take i values))) entry → i < length values → i + 2 < length entry
+    → set out (i + 2) (get_or values i 0) ≡ on_front (done (counted count (take (i + 1) values))) entry
+value_put out entry values count i e h l =
+    ap (λ o. set o (i + 2) (get_or values i 0)) e ∙ set_next (counted count (take i values)) entry (i + 2) (get_or values i 0) (omega (arith, length-take-le i values (omega arith))) l
+    ∙ ap (λ o. on_front (done (counted count o)) entry) (sym (take-suc values i 0 h) ∙ ap (λ n. take n values) (sym (add-one i)))
 
 -- so many bytes of them
-pub counted-front : (count : ℕ) (values entry : List ℕ) → take (length values + 2) (on_front (done (counted count values)) entry) ≡ counted count values
-counted-front count values entry =
+pub counted_front : (count : ℕ) (values entry : List ℕ) → take (length values + 2) (on_front (done (counted count values)) entry) ≡ counted count values
+counted_front count values entry =
     let n : length (counted count values) ≡ length values + 2 = omega arith in
     take_at (counted count values) (drop (length (counted count values)) entry) (length values + 2) n
 
@@ -140,12 +131,14 @@ sized-bytes (name ∷ names) h =
     ∙ ap₂ (λ a b. (a && all_bytes name) && b) (lt-ltb (length name) 256 (omega (arith, h.0))) (sized-bytes names h.1)
 
 module _ (count : ℕ) (values : List ℕ) where
-  pub after-over : 4096 < count → bytes_after house count values ≡ refuse 2 7 0
-  after-over h = ap (λ o. o >>= judge_bytes >>= λ names. done (name_bytes names)) (names-over house count values h)
+  pub after_over : 4096 < count → bytes_in house (count ∷ values) ≡ refuse 2 7 0
+  unfolding names_in_numbers
+  after_over h = ap (λ o. o >>= judge_bytes >>= λ names. done (name_bytes names)) (names-over house count values h)
 
   module _ (within : count ≤ 4096) where
-    pub after-refused : (r : Refusal) → cut_all house count values ≡ refused r → bytes_after house count values ≡ refused r
-    after-refused r e = ap (λ o. o >>= judge_bytes >>= λ names. done (name_bytes names)) (names-within house count values within ∙ e)
+    pub after_refused : (r : Refusal) → cut_all house count values ≡ refused r → bytes_in house (count ∷ values) ≡ refused r
+    unfolding names_in_numbers
+    after_refused r e = ap (λ o. o >>= judge_bytes >>= λ names. done (name_bytes names)) (names-within house count values within ∙ e)
 
     module _ (names : List (List ℕ)) (whole : cut_all house count values ≡ done names) where
       found : counted_names house count values ≡ done names
@@ -156,14 +149,18 @@ module _ (count : ℕ) (values : List ℕ) where
           let d = counted_names_done house count values names found in
           sym (sized-bytes names d.2.sizes) ∙ ap all_bytes d.0 ∙ e
 
-      pub after-value : false ≡ all_bytes values → bytes_after house count values ≡ refuse 1 7 0
-      after-value e = ap (λ o. o >>= judge_bytes >>= λ names. done (name_bytes names)) found ∙ rw (judged false (sym e), judge_bytes)
+      pub after_value : false ≡ all_bytes values → bytes_in house (count ∷ values) ≡ refuse 1 7 0
+      unfolding names_in_numbers
+      after_value e = ap (λ o. o >>= judge_bytes >>= λ names. done (name_bytes names)) found ∙ rw (judged false (sym e), judge_bytes)
 
-      pub after-whole : true ≡ all_bytes values → bytes_after house count values ≡ done (counted count values)
-      after-whole e =
+      pub after_whole : true ≡ all_bytes values → bytes_in house (count ∷ values) ≡ done (counted count values)
+      unfolding names_in_numbers
+      after_whole e =
           let d = counted_names_done house count values names found in
           ap (λ o. o >>= judge_bytes >>= λ names. done (name_bytes names)) found ∙ rw (judged true (sym e), judge_bytes)
           (ap₂ (λ n l. done (counted n l)) d.1 d.0)
+
+pub ruleset after_the_count = (after_over, after_refused, after_value, after_whole, counted_front)
 
 -- ---- the names in numbers
 in-none : (xs : List ℕ) → length xs ≡ 0 → bytes_in house xs ≡ refuse 1 7 0

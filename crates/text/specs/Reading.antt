@@ -3,7 +3,7 @@
 --     fed_in, ended_in    the array after a chunk, and at the end of the bytes
 --     answer_of           what is read at the end: the mode and the numbers after it, or a refusal
 -- Assumes nothing.
-use Rattle.std.specs.Prelude.{ℕ, ◌-◌, ◌<◌, ◌≤◌, List, [], ◌∷◌, get_or, take, drop, Option, Some, None, Result, Ok, Err}
+use Rattle.std.specs.Prelude.{ℕ, ◌-◌, List, [], ◌∷◌, get_or, take, drop, Option, Some, None, Result, Ok, Err}
 use Rattle.rules.specs.Refusal.{Refusal, Out, refused, done}
 use Rattle.rules.specs.Text.{most_numbers}
 use Rattle.rules.specs.Reader as rules
@@ -52,8 +52,3 @@ ended_in r ws = on_front (rules.closed r.token r.read) ws
 abbrev pub answer_of : Result ℕ ReadError → List ℕ → Out (ℕ × List ℕ)
 answer_of (Ok n) ws = done (get_or ws 0 0, take (n - 1) (drop 1 ws))
 answer_of (Err why) ws = refused (error_of why)
-
--- so many numbers that the mode is among them, and no more than are kept
-abbrev pub WithMode : Result ℕ ReadError → Type 0
-WithMode (Ok n) = (0 < n) × (n ≤ most_numbers)
-WithMode (Err why) = Unit

@@ -2,12 +2,12 @@
 --     end_of, rest_of      where the sections end, or the refusal; the numbers after the sections, or the refusal
 --     names_of, bytes_in   the names bytes, or the refusal; the same as the rules have it
 -- Assumes nothing.
-use Rattle.std.specs.Prelude.{ℕ, ◌/◌, ◌%◌, ◌≤◌, ◌≡◌, List, ◌∷◌, length, take, drop, Result, Ok, Err}
+use Rattle.std.specs.Prelude.{ℕ, ◌/◌, ◌%◌, ◌≡◌, List, ◌∷◌, take, drop, Result, Ok, Err}
 use Rattle.rules.specs.Refusal.{Out, refused, done, ◌>>=◌}
 use Rattle.rules.specs.Limits.{Limits}
 use Rattle.rules.specs.Sections.{cut_six, none_left}
-use Rattle.rules.specs.Names.{cut_names, counted_names, name_bytes}
-use Rattle.rules.specs.Text.{judge_bytes, names_in_numbers}
+use Rattle.rules.specs.Names.{cut_names, name_bytes}
+use Rattle.rules.specs.Text.{names_in_numbers}
 use Rattle.tables.specs.Refusals.{refusal_of}
 use Rattle.tables.specs.declared.refusal.Refusal.{Refusal}
 
@@ -16,11 +16,6 @@ use Rattle.tables.specs.declared.refusal.Refusal.{Refusal}
 abbrev pub end_of : Result ℕ Refusal → List ℕ → Out (List ℕ)
 end_of (Ok end) ws = done (drop end ws)
 end_of (Err why) ws = refused (refusal_of why)
-
--- a place is one of the words, or their end
-abbrev pub Inside : Result ℕ Refusal → List ℕ → Type 0
-Inside (Ok end) ws = end ≤ length ws
-Inside (Err why) ws = Unit
 
 -- the numbers after the six sections
 abbrev pub rest_of : Limits → List ℕ → Out (List ℕ)
@@ -31,11 +26,6 @@ rest_of limits ws = cut_six limits ws >>= λ p. done p.1
 abbrev pub names_of : Result ℕ Refusal → List ℕ → Out (List ℕ)
 names_of (Ok n) bytes = done (take n bytes)
 names_of (Err why) bytes = refused (refusal_of why)
-
--- so many bytes as the buffer has, at most
-abbrev pub Lent : Result ℕ Refusal → ℕ → Type 0
-Lent (Ok n) room = n ≤ room
-Lent (Err why) room = Unit
 
 -- so many names, and nothing after them
 abbrev pub cut_all : Limits → ℕ → List ℕ → Out (List (List ℕ))
@@ -49,10 +39,6 @@ Judges (Err why) o = o ≡ refused (refusal_of why)
 -- "a two-byte count, low byte first", and the values as they are
 abbrev pub counted : ℕ → List ℕ → List ℕ
 counted count values = count % 256 ∷ count / 256 ∷ values
-
--- the bytes of the names after their count
-abbrev pub bytes_after : Limits → ℕ → List ℕ → Out (List ℕ)
-bytes_after limits count values = counted_names limits count values >>= judge_bytes >>= λ names. done (name_bytes names)
 
 -- the bytes of the names in numbers
 abbrev pub bytes_in : Limits → List ℕ → Out (List ℕ)

@@ -1,5 +1,7 @@
 // Numbers, lines and the program's answer, printed on a page: a lent buffer and the place where the next byte goes. What does not fit is not
 // written: the buffer then holds the bytes up to its end, the page is full, and printing on a full page writes nothing.
+// By methods of the page and not by `write!`: the contract of `write!` says what was written where it answers `Ok`, and nothing says that it always does;
+// here what is written is promised of every call.
 ghost use Rattle.std.specs.Prelude.{◌≡◌, [], ◌∷◌, ◌+◌, ◌*◌, ◌≤◌, length};
 ghost use Rattle.rules.specs.Refusal.{refused};
 ghost use Rattle.rules.specs.Text.{decimal, blanked, line, lines, printed};
@@ -31,7 +33,7 @@ impl<'a> Page<'a> {
         }
     }
 
-    // One byte.
+    // One byte. By index: of what `get_mut` lends, std does not say that the slice ends with it.
     #[tactic(auto, unfolding(crate::specs::Printing::laid, crate::specs::Printing::put_at))]
     pub fn byte(&mut self, b: u8)
         ensures printed { page_of self.new ≡ laid (page_of self.old) (b ∷ []) }
@@ -70,7 +72,7 @@ impl<'a> Page<'a> {
     }
 
     // Each number after a blank, 21 bytes at most.
-    #[tactic(auto, unfolding(crate::specs::Printing::laid, rules::specs::Text::blanked))]
+    #[tactic(auto, unfolding(crate::specs::Printing::laid, rules::specs::Text::blanked), using(crate::proofs::Answer::blanked_bound))]
     pub fn blanked(&mut self, numbers: &[u64])
         ensures printed { page_of self.new ≡ laid (page_of self.old) (blanked numbers.now) }
         ensures short { length (blanked numbers.now) ≤ 21 * length numbers.now }

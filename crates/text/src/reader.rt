@@ -1,14 +1,14 @@
 // Decimal numbers out of bytes that arrive in chunks: a reader that holds a lent array of 4,096 numbers. Numbers may have any count of
 // leading zeros, blanks any length. The first refusal stays, whatever follows. The numbers read before it stay at the array's front,
 // and every other word of the array is as it was.
-ghost use Rattle.std.specs.Prelude.{◌≡◌, Option, None, take};
+ghost use Rattle.std.specs.Prelude.{◌≡◌, ◌<◌, ◌≤◌, Option, None, take, IfOk};
 ghost use Rattle.std.proofs.Math.Option.{none, some};
 ghost use Rattle.rules.specs.Refusal.{refused};
 ghost use Rattle.rules.specs.Text.{separates as text_separates, numbers as text_numbers};
 ghost use Rattle.rules.specs.Reader as rules;
 ghost use Rattle.text.specs.Front.{on_front};
 ghost use Rattle.text.specs.Refused.{refused_is};
-ghost use Rattle.text.specs.Reading.{token_of, token_with, error_of, read_of, reader_of, fed_in, ended_in, answer_of, WithMode};
+ghost use Rattle.text.specs.Reading.{token_of, token_with, error_of, read_of, reader_of, fed_in, ended_in, answer_of};
 
 use crate::refused::Refused;
 use tables::limits::HIGHEST_MODE;
@@ -16,7 +16,7 @@ use tables::limits::HIGHEST_MODE;
 // The most numbers of a text.
 pub const NUMBERS: usize = 4096;
 
-// The token that is being read.
+// The token that is being read. No `Option` of a number: none has begun, or what has begun is none, and the two go on differently.
 #[derive(Clone, Copy, Debug, PartialEq, Eq)]
 pub enum Token {
     Between,
@@ -51,7 +51,7 @@ impl From<ReadError> for Refused {
     }
 }
 
-// The array, how many numbers are read at its front, or the first refusal, and the token that is being read.
+// The array, how many numbers are read at its front, or the first refusal, and the token that is being read. The array is lent, as no heap is used.
 #[derive(Drop)]
 pub struct Reader<'a> {
     pub numbers: &'a mut [u64; NUMBERS],
@@ -74,7 +74,7 @@ impl<'a> Reader<'a> {
     }
 
     // A chunk of bytes more. How the bytes are cut into chunks does not matter.
-    #[tactic(auto, unfolding(rules::specs::Reader::feed, crate::specs::Reading::fed_in))]
+    #[tactic(auto, unfolding(rules::specs::Reader::feed, crate::specs::Reading::fed_in), using(crate::proofs::Reading::one_more))]
     pub fn feed(&mut self, chunk: &[u8])
         ensures reader { reader_of self.new ≡ rules.feed (reader_of self.old) chunk.now }
         ensures numbers { self.new.numbers.now ≡ fed_in (reader_of self.old) chunk.now self.old.numbers.now }
@@ -87,7 +87,7 @@ impl<'a> Reader<'a> {
 
     // At the end of the bytes: how many numbers there are, the mode among them, or the first refusal.
     pub fn finish(self) -> Result<usize, ReadError>
-        ensures read { (answer_of result self.exit.0.now ≡ rules.read_out (reader_of self.entry)) × WithMode result }
+        ensures read { (answer_of result self.exit.0.now ≡ rules.read_out (reader_of self.entry)) × IfOk result (λ n. (0 < n) × (n ≤ NUMBERS)) }
         ensures numbers { self.exit.0.now ≡ ended_in (reader_of self.entry) self.entry.numbers.now }
     {
         // Made anew of its parts: of these a proof knows what they left behind, and not of a `self` that is lent once more.
@@ -144,7 +144,7 @@ impl<'a> Reader<'a> {
     }
 
     // A number at the next place of the array, which is judged first.
-    #[tactic(auto, unfolding(rules::specs::Text::judge_token))]
+    #[tactic(auto, unfolding(rules::specs::Text::judge_token), using(crate::proofs::Reading::put_at_front))]
     fn put(&mut self, place: usize, x: u64) -> Result<usize, ReadError>
         ensures read { read_of result self.new.numbers.now ≡ rules.put (some x) (take place self.old.numbers.now) }
         ensures token { self.new.token ≡ self.old.token }
@@ -207,7 +207,7 @@ fn grown(token: Token, b: u8) -> Token
 
 // The whole text at once.
 pub fn read_text(bytes: &[u8], numbers: &mut [u64; NUMBERS]) -> Result<usize, ReadError>
-    ensures read { (answer_of result numbers.new ≡ text_numbers bytes.now) × WithMode result }
+    ensures read { (answer_of result numbers.new ≡ text_numbers bytes.now) × IfOk result (λ n. (0 < n) × (n ≤ NUMBERS)) }
     ensures numbers { numbers.new ≡ ended_in (rules.feed rules.fresh bytes.now) (fed_in rules.fresh bytes.now numbers.old) }
 {
     let mut reader = Reader::new(numbers);

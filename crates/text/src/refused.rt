@@ -5,7 +5,7 @@ ghost use Rattle.text.specs.Refused.{refused_is};
 
 use tables::refusal::Refusal;
 
-// Its number, section and position (docs/FORMAT.md, "Refusals"), as words: C's answer and a list's case have the three in a form of their own.
+// Its number, section and position (docs/FORMAT.md, "Refusals"), as words. `GemtweedAnswer` is no such: a call's outcome in four words, as C lays it out.
 #[derive(Clone, Copy, Debug, PartialEq, Eq)]
 pub struct Refused {
     pub number: u64,

@@ -6,15 +6,17 @@
 use Prim.Native.Nat.{ℕ, zero, suc, ◌+◌, ◌-◌, ◌<◌, ◌≤◌}
 use mathlib.Core.Path.{◌≡◌, refl, sym, ap, ap₂, ◌∙◌, subst}
 use mathlib.Core.Bool.{Bool, true, false}
+use mathlib.Core.Option.{none, some}
 use mathlib.Core.List.{List, [], ◌∷◌, ◌++◌}
 use native.Mathlib.Omega.{arith}
 use native.Mathlib.Nat.{sub-zero, zero-sub, suc-sub-suc, zero-add}
 use lib.ListN.{length, take, drop, length-drop}
 use lib.Seq.{take-nil, drop-drop}
 use lib.Dec.{leb}
-use borrow.Author.Tests.{lt-ltb, le-ltb, leb-true, leb-false}
+use borrow.Author.Tests.{leb-true, leb-false}
 use Rattle.rules.specs.Refusal.{Refusal, Out, refused, done, refuse, ◌>>=◌}
-use Rattle.rules.specs.Limits.{house, highest_mode, mode_of}
+use Rattle.rules.specs.Limits.{house}
+use Rattle.rules.specs.Model.{Mode}
 use Rattle.rules.specs.Sections.{Sections, cut_six, encode}
 use Rattle.rules.specs.Names.{name_bytes}
 use Rattle.rules.specs.Call.{Call, Accepted, Answer, impl, judge_mode, outcome, answer_of, result_of, left}
@@ -28,6 +30,8 @@ use Rattle.text.specs.Printing.{page, laid, accepted_text}
 use Rattle.text.proofs.Laid.{laid-fits, laid_full}
 use Rattle.text.proofs.Answer.{accepted-is}
 use Rattle.tables.specs.Refusals.{refusal_of}
+use Rattle.tables.specs.Judging.{refusal_in}
+use Rattle.tables.proofs.JudgedLaws.{is-refused, is-done}
 use Rattle.tables.proofs.RefusalLaws.{numbered}
 use Rattle.tables.specs.declared.refusal.Refusal.{Refusal as Reason}
 use Rattle.optimize.specs.Entries.{answered}
@@ -57,14 +61,13 @@ shown_as {entry} {exit} {r} e h = subst (λ t. Shown entry exit r t) e h
 bind_refused : {A B : Type 0} (m : Out A) (f : A → Out B) (r : Refusal) → m ≡ refused r → (m >>= f) ≡ refused r
 bind_refused m f r e = ap (λ o. o >>= f) e
 
-pub mode-refused : (mode : ℕ) (xs : List ℕ) → highest_mode < mode → after_numbers house (mode, xs) ≡ refuse 1 0 0
-unfolding after_numbers judge_mode
-mode-refused mode xs h = bind_refused (judge_mode mode) _ _ (rw (lt-ltb highest_mode mode h, judge_mode))
+pub mode-refused : (mode : ℕ) (xs : List ℕ) (r : Refusal) → some r ≡ refusal_in (judge_mode mode) → after_numbers house (mode, xs) ≡ refused r
+unfolding after_numbers
+mode-refused mode xs r e = bind_refused (judge_mode mode) _ r (is-refused (judge_mode mode) r e)
 
-module _ (mode : ℕ) (xs : List ℕ) (low : mode ≤ highest_mode) where
-  judged : judge_mode mode ≡ done (mode_of mode)
-  unfolding judge_mode
-  judged = rw (le-ltb highest_mode mode low, judge_mode)
+module _ (mode : ℕ) (xs : List ℕ) (taken : none ≡ refusal_in (judge_mode mode)) where
+  judged : (how : Mode) × (judge_mode mode ≡ done how)
+  judged = is-done (judge_mode mode) taken
 
   rest-refused : (r : Refusal) → rest_of house xs ≡ refused r → cut_six house xs ≡ refused r
   rest-refused r e = go (cut_six house xs) e
@@ -75,7 +78,7 @@ module _ (mode : ℕ) (xs : List ℕ) (low : mode ≤ highest_mode) where
 
   pub sections-refused : (r : Refusal) → rest_of house xs ≡ refused r → after_numbers house (mode, xs) ≡ refused r
   unfolding after_numbers
-  sections-refused r e = bind_done (judge_mode mode) _ (mode_of mode) judged ∙ bind_refused (cut_six house xs) _ r (rest-refused r e)
+  sections-refused r e = bind_done (judge_mode mode) _ judged.0 judged.1 ∙ bind_refused (cut_six house xs) _ r (rest-refused r e)
 
   -- the sections that were cut before the rest
   cut-before : (rest : List ℕ) → rest_of house xs ≡ done rest → (s : Sections) × (cut_six house xs ≡ done (s, rest))
@@ -96,14 +99,14 @@ module _ (mode : ℕ) (xs : List ℕ) (low : mode ≤ highest_mode) where
   unfolding after_numbers
   names-refused rest r e f =
       let c = cut-before rest e in
-      bind_done (judge_mode mode) _ (mode_of mode) judged ∙ bind_done (cut_six house xs) _ (c.0, rest) c.1
+      bind_done (judge_mode mode) _ judged.0 judged.1 ∙ bind_done (cut_six house xs) _ (c.0, rest) c.1
       ∙ bind_refused (names_in_numbers house rest) _ r (names_in rest r f)
 
 -- else it is the call: the words before the place where the sections end, and the names bytes
-call-is : (mode : ℕ) (xs : List ℕ) → mode ≤ highest_mode → (end : ℕ) (names : List ℕ) → end ≤ length xs → rest_of house xs ≡ done (drop end xs) → bytes_in house (drop end xs) ≡ done names
+call-is : (mode : ℕ) (xs : List ℕ) → none ≡ refusal_in (judge_mode mode) → (end : ℕ) (names : List ℕ) → end ≤ length xs → rest_of house xs ≡ done (drop end xs) → bytes_in house (drop end xs) ≡ done names
     → after_numbers house (mode, xs) ≡ outcome house impl (call_of mode (take end xs) names)
-call-is mode xs low end names h e f =
-    let c = cut-before mode xs low (drop end xs) e in
+call-is mode xs taken end names h e f =
+    let c = cut-before mode xs taken (drop end xs) e in
     let size : length xs - length (drop end xs) ≡ end = omega (arith, length-drop end xs) in
     let words : encode c.0 ≡ take end xs = text_words house xs c.0 (drop end xs) c.1 ∙ ap (λ n. take n xs) size in
     through (names_in_numbers house (drop end xs)) (λ ns. done (name_bytes ns)) names f λ ns g k.
@@ -123,7 +126,7 @@ names-part ws n end =
     go (suc end) (suc n) (x ∷ xs) = ap (λ m. take m (drop end xs)) (suc-sub-suc n end) ∙ go end n xs
 
 -- ---- the call that is made of the numbers, and its answer: words and names are fronts of two slices, both buffers have 4,096 words
-module _ (mode : ℕ) (ws bs : List ℕ) (count end size room : ℕ) (low : mode ≤ highest_mode) (full : room ≡ 4096) (inside : end ≤ length (after_mode ws count))
+module _ (mode : ℕ) (ws bs : List ℕ) (count end size room : ℕ) (taken : none ≡ refusal_in (judge_mode mode)) (full : room ≡ 4096) (inside : end ≤ length (after_mode ws count))
     (cut : done (drop end (after_mode ws count)) ≡ rest_of house (after_mode ws count))
     (names : done (take size bs) ≡ bytes_in house (take (count - (1 + end)) (drop (1 + end) ws))) where
   abbrev made : Call
@@ -133,7 +136,7 @@ module _ (mode : ℕ) (ws bs : List ℕ) (count end size room : ℕ) (low : mode
   called_as =
       let bytes : bytes_in house (drop end (after_mode ws count)) ≡ done (take size bs) = ap (bytes_in house) (sym (names-part ws count end)) ∙ sym names in
       ap (λ n. outcome house impl (record { mode = mode; words = take end (after_mode ws count); names = take size bs; result_room = n; scratch_room = 4096 })) full
-      ∙ sym (call-is mode (after_mode ws count) low end (take size bs) inside (sym cut) bytes)
+      ∙ sym (call-is mode (after_mode ws count) taken end (take size bs) inside (sym cut) bytes)
 
   pub works : (r : Result ℕ Reason) (result : List ℕ) → answered r ≡ (left house impl made).answer → result ≡ (left house impl made).result
       → Works refusal_of r result (after_numbers house (mode, after_mode ws count))
@@ -146,6 +149,8 @@ module _ (mode : ℕ) (ws bs : List ℕ) (count end size room : ℕ) (low : mode
       go : (o : Out Accepted) → answered (Err w) ≡ answer_of o → o ≡ refused (refusal_of w)
       go (refused r) f = ap (λ (a : Answer). refuse a.number a.section a.position) (sym f)
       go (done a) f = let o : ⊥ = omega (arith, numbered w, ap (λ (a : Answer). a.number) f) in absurd o
+
+pub ruleset stages = (mode-refused, sections-refused, names-refused, names-part, works)
 
 -- the answer to a whole text
 pub text_program : (bytes : List ℕ) (read : Out (ℕ × List ℕ)) → read ≡ numbers bytes → printed (answer_after read) ≡ program bytes

@@ -1,5 +1,5 @@
 // What the program prints, once the numbers of a text are read: sections and names are cut, the call is made, its answer is printed.
-ghost use Rattle.std.specs.Prelude.{◌≡◌, ◌-◌, ◌<◌, ◌≤◌, length, get_or, take, drop};
+ghost use Rattle.std.specs.Prelude.{◌<◌, ◌≤◌, get_or};
 ghost use Rattle.rules.specs.Limits.{house};
 ghost use Rattle.rules.specs.Text.{after_numbers, printed, program};
 ghost use Rattle.tables.specs.Refusals.{refusal_of};
@@ -8,14 +8,14 @@ ghost use Rattle.text.specs.Reading.{answer_of};
 ghost use Rattle.text_answer.specs.Answering.{Works, Shown, after_mode, answer_after};
 
 use optimize::optimize::optimize_model_impl;
-use tables::limits::HIGHEST_MODE;
+use tables::judge::judge_mode;
 use tables::refusal::Refusal;
 use text::printer::{print_accepted, print_refused};
 use text::reader::{NUMBERS, ReadError, read_text};
 use text::refused::Refused;
 use text::split::{BYTES, names_bytes, sections_end};
 
-// No heap is used, so numbers, names and words are in lent arrays, with a count or an end of their own.
+// No heap is used, so numbers, names and words are in arrays, with a count or an end of their own.
 // Room for the longest answer: 4,096 words of 20 digits, a blank or a line end after each, and 18 bytes more.
 pub const ROOM: usize = 86034;
 
@@ -23,15 +23,14 @@ pub const ROOM: usize = 86034;
 const WORDS: usize = 4096;
 
 // The call that so many numbers make: the mode, the sections and the names. The words of its result are in the buffer.
+#[tactic(auto, using(crate::proofs::Answering::stages))]
 fn called(numbers: &[u64; NUMBERS], count: usize, res: &mut [u64; WORDS]) -> Result<usize, Refusal>
     requires { (0 < count) × (count ≤ 4096) }
     ensures { Works refusal_of result res.new (after_numbers house (get_or numbers.now 0 0, after_mode numbers.now count)) }
 {
     let kept: &[u64] = numbers;
     let mode = kept[0];
-    if mode > HIGHEST_MODE {
-        return Err(Refusal::Mode);
-    }
+    judge_mode(mode)?;
     let words = &kept[1..count];
     let end = sections_end(words)?;
     let mut names = [0u8; BYTES];
@@ -41,7 +40,8 @@ fn called(numbers: &[u64; NUMBERS], count: usize, res: &mut [u64; WORDS]) -> Res
     optimize_model_impl(mode, &words[..end], &bytes[..size], res, &mut scratch)
 }
 
-// The outcome of the numbers that were read, or of the refusal of reading. A count past the array is all of it.
+// The outcome of the numbers that were read, or of the refusal of reading. A count past the array is all of it, and one of 0, which no
+// reading gives, counts as 1.
 fn worked(
     read: Result<usize, ReadError>,
     numbers: &[u64; NUMBERS],
@@ -69,6 +69,7 @@ pub fn answer(
 }
 
 // The answer to a whole text.
+#[tactic(auto, using(crate::proofs::Answering::shown_as, crate::proofs::Answering::text_program))]
 pub fn answer_text(text: &[u8], out: &mut [u8; ROOM]) -> usize
     ensures { Shown out.old out.new result (program text.now) }
 {

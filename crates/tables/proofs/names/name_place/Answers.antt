@@ -33,14 +33,14 @@ pub overflow_cast-k : goal.overflow_cast-k
 overflow_cast-k c = omega (arith, count_limit _ _ _ (names-counted (goal.at.overflow_cast-k c).In-Ok))
 
 pub overflow_add-result : goal.overflow_add-result
-overflow_add-result c = omega (arith, count_limit _ _ _ (names-counted (goal.at.overflow_add-result c).In-Ok))
+overflow_add-result c = omega (arith, c.skip_names-at.ensures, counted_inside _ _ _ (names-counted (goal.at.overflow_add-result c).In-Ok) c.args.k (omega arith) (omega arith), c.well_formed.0)
 
 pub returns : goal.returns
 returns c =
     let bs = c.args.names.now in
     let k = c.args.k in
     let counted = names-counted (goal.at.returns c).In-Ok in
-    let p : c.skip_names-at.result ≡ length_place (k - 1) bs 2 = c.skip_names-at.ensures.0 in
+    let p : c.skip_names-at.result ≡ length_place (k - 1) bs 2 = c.skip_names-at.ensures in
     record {
       place = ap₂ (λ (start len : ℕ). some (start, len)) (ap (λ q. q + 1) p) (c.byte-len.ensures.0 ∙ ap (λ q. get_or bs q 0) p)
           ∙ sym (place-within (limits_is c.args.limits) bs _ counted k (omega arith) (omega arith));

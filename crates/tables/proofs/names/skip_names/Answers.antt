@@ -1,25 +1,22 @@
--- `skip_names` goes from length byte to length byte.
+-- `skip_names` goes from length byte to length byte, each at most 256 places further.
 -- Assumes nothing.
-use Prim.Native.Nat.{ℕ, ◌+◌, ◌-◌}
-use mathlib.Core.Path.{◌≡◌, sym, ap, ap₂, ◌∙◌}
+use Prim.Native.Nat.{◌+◌, ◌^◌, ◌<◌}
+use mathlib.Core.Path.{◌∙◌}
 use native.Mathlib.Omega.{arith}
-use Rattle.rules.specs.Names.{length_place}
-use Rattle.tables.proofs.NameLaws.{place_here, place-next}
+use lib.ListN.{get_or}
+use Rattle.std.proofs.Common.{rules}
+use Rattle.std.proofs.lemmas.Iterator.{YieldsList-from_range}
+use Rattle.std.proofs.lemmas.Iterator.Adapters.{serves_from_total}
+use Rattle.std.proofs.lemmas.Iterator.Consumers.{fold_from_yields_List}
+use Rattle.tables.proofs.NameLaws.{places_summed, places_folded}
 use Rattle.tables.proofs.names.skip_names.Goals as goal
 
-pub loop-preserved : goal.loop-preserved
-loop-preserved c =
-    let bs = c.args.names.now in
-    let left = c.args.skipped - c.loop.counter in
-    let at = c.loop.at in
-    let e : c.args.skipped - (c.loop.counter + 1) ≡ left - 1 = omega arith in (
-      ap₂ (λ (m x : ℕ). length_place m bs (at + 1 + x)) e c.byte.ensures.0 ∙ sym (place-next left bs at (omega arith)) ∙ c.loop.invariant.0,
-      omega arith,
-    )
+pub fold-requires-clause-callable : goal.fold-requires-clause-callable
+fold-requires-clause-callable c =
+    serves_from_total (YieldsList-from_range 0 c.args.skipped c.args.skipped (cc) (omega arith)) (λ _. 256) (λ n x q k. search rules) (λ n x h. let room : n + 256 < 2 ^ 64 = omega (arith, h, places_summed c.args.skipped 0 0) in search rules)
 
 pub returns : goal.returns
 returns c =
-    let bs = c.args.names.now in
-    let at = c.loop.at in
-    let e : 0 ≡ c.args.skipped - c.loop.counter = omega arith in
-    (sym (place_here bs at) ∙ ap (λ (m : ℕ). length_place m bs at) e ∙ c.loop.invariant.0, omega arith)
+    fold_from_yields_List _ (λ at _. at + 1 + get_or c.args.names.now at 0) 2 c.fold.result c.fold.ensures.ran
+    (YieldsList-from_range 0 c.args.skipped c.args.skipped (cc) (omega arith)) (λ a x b q k. search rules)
+    ∙ places_folded c.args.names.now c.args.skipped 0 2

@@ -5,14 +5,14 @@ use mathlib.Core.List.{[], ◌∷◌, ◌++◌}
 use native.Mathlib.Nat.{le_trans}
 use Rattle.text.specs.Printing.{accepted_text}
 use Rattle.rules.specs.Text.{accepted_word}
-use Rattle.text.proofs.Laid.{laid-two}
-use Rattle.text.proofs.Answer.{accepted-room, left_behind, place_after}
+use Rattle.text.proofs.Laid.{laid_two}
+use Rattle.text.proofs.Answer.{accepted_room, left_behind, place_after}
 use Rattle.text.proofs.printer.print_accepted.Goals as goal
 
 pub returns : goal.returns
 returns c =
-    let all = laid-two _ _ _ (accepted_word ++ (10 ∷ [])) _ c.bytes.ensures.printed c.sections.ensures.printed in
+    let all = laid_two _ _ _ (accepted_word ++ (10 ∷ [])) _ c.bytes.ensures.printed c.sections.ensures.printed in
     record {
       result_after = left_behind c.new-page.result c.sections.new.self _ _ c.new-page.ensures.page all _ (search rules);
-      room = λ h. place_after c.new-page.result c.sections.new.self _ (accepted_text c.args.words.now) c.new-page.ensures.page all (le_trans (accepted-room c.args.words.now (λ k. (c.type_inv.words k).fits)) h);
+      room = λ h. place_after c.new-page.result c.sections.new.self _ (accepted_text c.args.words.now) c.new-page.ensures.page all (le_trans (accepted_room c.args.words.now (λ k. (c.type_inv.words k).fits)) h);
     }

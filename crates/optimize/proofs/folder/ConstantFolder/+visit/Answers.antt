@@ -1,26 +1,20 @@
 -- The cycle of visit and process, member by member.
 -- Assumes nothing.
 use Prim.Native.Nat.{◌<◌}
-use mathlib.Core.Path.{refl, ap, sym, ◌∙◌}
-use mathlib.Core.Bool.{cond}
+use mathlib.Core.Path.{◌≡◌, refl, ap, sym, ◌∙◌}
+use mathlib.Core.Option.{some}
 use native.Mathlib.Omega.{arith}
-use Rattle.std.specs.Prelude.{Ok}
-use Rattle.rules.specs.Sections.{word_of}
-use Rattle.rules.specs.Table.{with}
-use Rattle.rules.specs.Walk.{set_row}
-use Rattle.rules.specs.Fold.{stays, swap}
-use Rattle.rules.specs.Visit.{left, right, undecided, settle}
+use Rattle.rules.specs.Fold.{stays, swap, const_of}
+use Rattle.rules.specs.Visit.{branch, left, right, undecided, settle}
 use Rattle.optimize.specs.declared.call.Call.{Call}
-use Rattle.optimize.specs.View.{mark_is, node_of, table_of}
-use Rattle.optimize.specs.Call.{ways_of}
-use Rattle.optimize.specs.Folder.{given_in, seen}
-use Rattle.optimize.specs.Clauses.{Meets}
-use Rattle.optimize.specs.Process.{after_one, after_two, after_ite, visit_of, chosen_of, form_at, by_form}
-use Rattle.optimize.proofs.Asks.{raised}
+use Rattle.optimize.specs.View.{constant_is, mark_is, table_of}
+use Rattle.optimize.specs.Folder.{given_in, rows_in}
+use Rattle.optimize.specs.Process.{after_one, after_two, after_ite, chosen_of, form_at, by_form}
 use Rattle.optimize.proofs.Forms.{formed}
-use Rattle.optimize.proofs.Keeps.{before-on, on-ok, ready-after, ready-before, ready-falls, ready-room, row-falls}
-use Rattle.optimize.proofs.Walks.{again_kept, again_replaced, branch-at, chosen-before, chosen-is, chosen-word, comes, deep, goes, laid-place, meets, operand-at, row-settled, stops, visited-fresh, walks-at}
+use Rattle.optimize.proofs.Keeps.{before-on, first-operand, laid-after, on-ok, operands-before, ready-after, ready-falls, ready-room, row-falls}
+use Rattle.optimize.proofs.Walks.{branched, chosen-before, chosen-is, chosen-word, halts, onward, row-settled, settled-walks, taken-walks, undecided-is, visited-fresh, visited-kept, visited-replaced, walks-as}
 use Rattle.optimize.proofs.folder.ConstantFolder.+visit.Goals as goal
+use Rattle.optimize.proofs.folder.ConstantFolder.+visit.Goals.{process_ite-in_default-via-in-Some+in_default, process_ite-in_default-via-in_default}
 
 -- ---- process
 
@@ -39,17 +33,17 @@ process-take_input-requires t c =
 pub process-returns-in-Constant-clause-walks : goal.process-returns-in-Constant-clause-walks
 unfolding by_form
 process-returns-in-Constant-clause-walks t c =
-    formed c.args.self.now _ _ c.args.node _ (sym c.in-Constant.is ∙ c.form_at.ensures) (λ h fuel l. meets h (c.settle_const.ensures.settles h))
+    formed c.args.self.now _ _ c.args.node _ (sym c.in-Constant.is ∙ c.form_at.ensures) (settled-walks c.settle_const.ensures.settles)
 
 pub process-returns-in-Given-clause-walks : goal.process-returns-in-Given-clause-walks
 unfolding by_form
 process-returns-in-Given-clause-walks t c =
-    formed c.args.self.now _ _ c.args.node _ (sym c.in-Given.is ∙ c.form_at.ensures) (λ h fuel l. meets h (c.settle.ensures.settles h))
+    formed c.args.self.now _ _ c.args.node _ (sym c.in-Given.is ∙ c.form_at.ensures) (settled-walks c.settle.ensures.settles)
 
 pub process-returns-in-Free-clause-walks : goal.process-returns-in-Free-clause-walks
 unfolding by_form
 process-returns-in-Free-clause-walks t c =
-    formed c.args.self.now _ _ c.args.node _ (sym c.in-Free.is ∙ c.form_at.ensures) (λ h fuel l. c.take_input.ensures.takes h)
+    formed c.args.self.now _ _ c.args.node _ (sym c.in-Free.is ∙ c.form_at.ensures) (taken-walks c.take_input.ensures.takes)
 
 pub process-returns-in-One-clause-walks : goal.process-returns-in-One-clause-walks
 unfolding by_form
@@ -80,258 +74,163 @@ process-returns-in-Step-clause-walks t c =
 
 pub process_both-visit_operand-requires : goal.process_both-visit_operand-requires
 process_both-visit_operand-requires t c =
-    (omega (arith, c.decreases), (c.requires.ready, (omega arith, (ready-before _ _ c.requires.ready _ c.requires.form).1)))
+    (omega (arith, c.decreases), (c.requires.ready, (omega arith, (operands-before c.requires).1)))
 
 pub process_both-returns-in_err-y-clause-walks : goal.process_both-returns-in_err-y-clause-walks
-process_both-returns-in_err-y-clause-walks t c =
-    rw (raised c.from_residual.result c.in_err-y.field-0.0 c.from_residual.ensures.1) (λ h fuel l. stops _ (c.in_err-y.ensures.walks h fuel l))
+process_both-returns-in_err-y-clause-walks t c = halts _ c.from_residual.ensures.1 c.in_err-y.ensures.walks
 
 pub process_both-visit_operand-requires-2 : goal.process_both-visit_operand-requires-2
 process_both-visit_operand-requires-2 t c =
-    let n = c.args.node in
-    let b = ready-before _ _ c.requires.ready _ c.requires.form in
-    (omega (arith, c.decreases), (c.in_ok-y.ensures.ready, (omega arith, before-on c.args.self.now c.visit_operand.new.self c.in_ok-y.ensures.keeps n 4 (b.2))))
+    (omega (arith, c.decreases), (c.in_ok-y.ensures.ready, (omega arith, before-on 4 c.in_ok-y.ensures.keeps (operands-before c.requires).2)))
 
 pub process_both-returns-in_err-z-clause-walks : goal.process_both-returns-in_err-z-clause-walks
 process_both-returns-in_err-z-clause-walks t c =
-    let f = c.args.self.now in
-    let n = c.args.node in
-    rw (raised c.from_residual-in_err-z.result c.in_err-z.field-0.0 c.from_residual-in_err-z.ensures.1) (λ h fuel l.
-    let m1 = c.in_ok-y.ensures.walks h fuel l in
-    goes m1 _ (stops _ (operand-at f c.visit_operand.new.self c.visit_operand-2.new.self (c.in_ok-y.ensures.keeps.call) _ n 4 c.in_err-z.ensures.walks m1.held fuel l)))
+    onward _ c.in_ok-y.ensures.keeps c.in_ok-y.ensures.walks (halts _ c.from_residual-in_err-z.ensures.1 c.in_err-z.ensures.walks)
 
 pub process_both-returns-clause-walks : goal.process_both-returns-clause-walks
 process_both-returns-clause-walks t c =
-    let f = c.args.self.now in
-    let n = c.args.node in
-    λ h fuel l.
-    let m1 = c.in_ok-y.ensures.walks h fuel l in
-    let m2 = operand-at f c.visit_operand.new.self c.visit_operand-2.new.self (c.in_ok-y.ensures.keeps.call) _ n 4 c.in_ok-z.ensures.walks m1.held fuel l in
-    goes m1 _ (goes m2 _ (row-settled f c.visit_operand-2.new.self c.put_row.new.self c.after_ite.new.self (c.in_ok-z.ensures.keeps.call ∙ c.in_ok-y.ensures.keeps.call) n c.put_row.ensures.keeps.call _ (λ g ways σ. after_ite g ways σ n c.args.x c.in_ok-y.y c.in_ok-z.z) c.put_row.ensures.puts_row refl refl refl c.after_ite.ensures.settles m2.held))
+    onward _ c.in_ok-y.ensures.keeps c.in_ok-y.ensures.walks (onward _ c.in_ok-z.ensures.keeps c.in_ok-z.ensures.walks
+    (row-settled (λ g ways σ. after_ite g ways σ c.args.node c.args.x c.in_ok-y.y c.in_ok-z.z) _ _ _ c.put_row.ensures.keeps c.put_row.ensures.puts_row refl refl refl c.after_ite.ensures.settles))
 
 -- ---- process_chosen
 
 pub process_chosen-visit_operand-requires : goal.process_chosen-visit_operand-requires
 process_chosen-visit_operand-requires t c =
     let n = c.args.node in
-    let b = ready-before _ _ c.requires.ready _ c.requires.form in
+    let b = operands-before c.requires in
     (omega (arith, c.decreases), (c.requires.ready, (omega (arith, c.choose.ensures, chosen-word c.args.condition), rw c.choose.ensures (chosen-before (given_in c.args.self.now) c.args.condition n b.1 b.2))))
 
 pub process_chosen-returns-in_err-chosen-clause-walks : goal.process_chosen-returns-in_err-chosen-clause-walks
 process_chosen-returns-in_err-chosen-clause-walks t c =
-    let f = c.args.self.now in
-    let g = given_in f in
-    let ways = ways_of f.call in
-    let n = c.args.node in
     let walks = rw c.choose.ensures at c.in_err-chosen.ensures.walks in
-    rw (raised c.from_residual.result c.in_err-chosen.field-0.0 c.from_residual.ensures.1) (λ h fuel l. comes (stops _ (walks h fuel l)) (chosen-is g ways (visit_of g ways fuel) c.args.condition c.args.x (seen h f) n))
+    walks-as (λ g ways vis σ. chosen-is g ways vis c.args.condition c.args.x σ c.args.node) (halts _ c.from_residual.ensures.1 walks)
 
 pub process_chosen-returns-clause-walks : goal.process_chosen-returns-clause-walks
 process_chosen-returns-clause-walks t c =
-    let f = c.args.self.now in
-    let g = given_in f in
-    let ways = ways_of f.call in
-    let n = c.args.node in
     let walks = rw c.choose.ensures at c.in_ok-chosen.ensures.walks in
-    let same = c.in_ok-chosen.ensures.keeps.call in
-    let f1 = c.visit_operand.new.self in
-    let f2 = c.put_row.new.self in
-    λ h fuel l.
-    let m = walks h fuel l in
-    comes
-    (goes m (λ p. settle (table_of g) ways n (set_row p.0 n (with (node_of g n) c.args.x (cond c.args.condition p.1 (word_of g n 3)) (cond c.args.condition (word_of g n 4) p.1))) (swap p.1))
-    (row-settled f f1 f2 c.settle.new.self same n c.put_row.ensures.keeps.call _ (λ g ways σ. settle (table_of g) ways n σ (swap c.in_ok-chosen.chosen)) c.put_row.ensures.puts_row refl (c.choose-2.ensures ∙ rw c.operand-b.ensures) (c.choose-3.ensures ∙ rw c.operand-c.ensures) c.settle.ensures.settles m.held))
-    (chosen-is g ways (visit_of g ways fuel) c.args.condition c.args.x (seen h f) n)
+    walks-as (λ g ways vis σ. chosen-is g ways vis c.args.condition c.args.x σ c.args.node)
+    (onward _ c.in_ok-chosen.ensures.keeps walks
+    (row-settled (λ g ways σ. settle (table_of g) ways c.args.node σ (swap c.in_ok-chosen.chosen)) _ _ _ c.put_row.ensures.keeps c.put_row.ensures.puts_row refl (c.choose-2.ensures ∙ rw c.operand-b.ensures) (c.choose-3.ensures ∙ rw c.operand-c.ensures) c.settle.ensures.settles))
 
 -- ---- process_ite
 
 pub process_ite-visit_operand-requires : goal.process_ite-visit_operand-requires
 process_ite-visit_operand-requires t c =
-    (omega (arith, c.decreases), (c.requires.ready, (omega arith, (ready-before _ _ c.requires.ready _ c.requires.form).0)))
+    (omega (arith, c.decreases), first-operand c.requires)
 
 pub process_ite-returns-in_err-x-clause-walks : goal.process_ite-returns-in_err-x-clause-walks
-process_ite-returns-in_err-x-clause-walks t c =
-    rw (raised c.from_residual.result c.in_err-x.field-0.0 c.from_residual.ensures.1) (λ h fuel l. stops _ (c.in_err-x.ensures.walks h fuel l))
+process_ite-returns-in_err-x-clause-walks t c = halts _ c.from_residual.ensures.1 c.in_err-x.ensures.walks
 
-pub process_ite-returns-in-Left-clause-walks : goal.process_ite-returns-in-Left-clause-walks
-process_ite-returns-in-Left-clause-walks t c =
-    let f = c.args.self.now in
-    let g = given_in f in
-    let ways = ways_of f.call in
-    let n = c.args.node in
-    let same = c.in_ok-x.ensures.keeps.call in
-    let f1 = c.visit_operand.new.self in
-    let x = c.in_ok-x.x in
-    λ h fuel l.
-    let m1 = c.in_ok-x.ensures.walks h fuel l in
-    goes m1 _
-    (comes (walks-at f f1 c.process_chosen.new.self same _ n (λ g ways vis σ. chosen_of g ways vis left x σ n) c.process_chosen.ensures.walks m1.held fuel l)
-    (ap (λ b. chosen_of g ways (visit_of g ways fuel) b x (seen m1.held f1) n) (branch-at f1 m1.held x _ _ _ c.get_constant.ensures c.choice_of.ensures c.in-Left.is)))
+pub process_ite-returns-in-Some-eq1-clause-walks : goal.process_ite-returns-in-Some-eq1-clause-walks
+process_ite-returns-in-Some-eq1-clause-walks t c =
+    let is = sym (ap branch c.in-Some-eq1.ensures) ∙ ap (λ v. branch (some v)) c.in-Some-eq1.field-0-test in
+    onward _ c.in_ok-x.ensures.keeps c.in_ok-x.ensures.walks (branched _ left is c.process_chosen.ensures.walks)
 
-pub process_ite-returns-in-Right-clause-walks : goal.process_ite-returns-in-Right-clause-walks
-process_ite-returns-in-Right-clause-walks t c =
-    let f = c.args.self.now in
-    let g = given_in f in
-    let ways = ways_of f.call in
-    let n = c.args.node in
-    let same = c.in_ok-x.ensures.keeps.call in
-    let f1 = c.visit_operand.new.self in
-    let x = c.in_ok-x.x in
-    λ h fuel l.
-    let m1 = c.in_ok-x.ensures.walks h fuel l in
-    goes m1 _
-    (comes (walks-at f f1 c.process_chosen-in-Right.new.self same _ n (λ g ways vis σ. chosen_of g ways vis right x σ n) c.process_chosen-in-Right.ensures.walks m1.held fuel l)
-    (ap (λ b. chosen_of g ways (visit_of g ways fuel) b x (seen m1.held f1) n) (branch-at f1 m1.held x _ _ _ c.get_constant.ensures c.choice_of.ensures c.in-Right.is)))
+pub process_ite-returns-in-Some-eq0-clause-walks : goal.process_ite-returns-in-Some-eq0-clause-walks
+process_ite-returns-in-Some-eq0-clause-walks t c =
+    let is = sym (ap branch c.in-Some-eq0.ensures) ∙ ap (λ v. branch (some v)) c.in-Some-eq0.field-0-test in
+    onward _ c.in_ok-x.ensures.keeps c.in_ok-x.ensures.walks (branched _ right is c.process_chosen-in-Some-eq0.ensures.walks)
 
-pub process_ite-returns-in-Undecided-clause-walks : goal.process_ite-returns-in-Undecided-clause-walks
+pub process_ite-returns-in_default-clause-walks : goal.process_ite-returns-in_default-clause-walks
 unfolding chosen_of
-process_ite-returns-in-Undecided-clause-walks t c =
-    let f = c.args.self.now in
-    let g = given_in f in
-    let ways = ways_of f.call in
-    let n = c.args.node in
-    let same = c.in_ok-x.ensures.keeps.call in
-    let f1 = c.visit_operand.new.self in
-    let x = c.in_ok-x.x in
-    λ h fuel l.
-    let m1 = c.in_ok-x.ensures.walks h fuel l in
-    goes m1 _
-    (comes (walks-at f f1 c.process_both.new.self same _ n (λ g ways vis σ. chosen_of g ways vis undecided x σ n) c.process_both.ensures.walks m1.held fuel l)
-    (ap (λ b. chosen_of g ways (visit_of g ways fuel) b x (seen m1.held f1) n) (branch-at f1 m1.held x _ _ _ c.get_constant.ensures c.choice_of.ensures c.in-Undecided.is)))
+process_ite-returns-in_default-clause-walks t c =
+    let is : branch (const_of (rows_in c.visit_operand.new.self) c.in_ok-x.x) ≡ undecided =
+    elim c.in_default.branch [
+      | process_ite-in_default-via-in-Some+in_default w ↦ sym (ap branch w.in_default.ensures) ∙ undecided-is _ w.in_default.field-0-test.0.1 w.in_default.field-0-test.1
+      | process_ite-in_default-via-in_default w ↦ sym (ap branch c.get_constant.ensures) ∙ ap (λ d. branch (constant_is d)) w.in_default.is
+    ] in
+    onward _ c.in_ok-x.ensures.keeps c.in_ok-x.ensures.walks (branched _ undecided is c.process_both.ensures.walks)
 
 -- ---- process_next
 
+-- of either operand that it visits, so that an edit which visits the other is refused for what it returns
 pub process_next-visit_operand-requires : goal.process_next-visit_operand-requires
 process_next-visit_operand-requires t c =
-    let b = ready-before _ _ c.requires.ready _ c.requires.form in
+    let b = operands-before c.requires in
     (omega (arith, c.decreases), (c.requires.ready, (omega arith, omega (arith, b.0, b.1))))
 
 pub process_next-returns-in_err-visit_operand-clause-walks : goal.process_next-returns-in_err-visit_operand-clause-walks
 process_next-returns-in_err-visit_operand-clause-walks t c =
-    rw (raised c.from_residual.result c.in_err-visit_operand.field-0.0 c.from_residual.ensures.1) (λ h fuel l. stops _ (c.in_err-visit_operand.ensures.walks h fuel l))
+    halts _ c.from_residual.ensures.1 c.in_err-visit_operand.ensures.walks
 
 pub process_next-visit_operand-requires-2 : goal.process_next-visit_operand-requires-2
 process_next-visit_operand-requires-2 t c =
-    let n = c.args.node in
-    let b = ready-before _ _ c.requires.ready _ c.requires.form in
-    (omega (arith, c.decreases), (c.in_ok-visit_operand.ensures.ready, (omega arith, before-on c.args.self.now c.visit_operand.new.self c.in_ok-visit_operand.ensures.keeps n 3 (b.1))))
+    (omega (arith, c.decreases), (c.in_ok-visit_operand.ensures.ready, (omega arith, before-on 3 c.in_ok-visit_operand.ensures.keeps (operands-before c.requires).1)))
 
 pub process_next-returns-in_err-y-clause-walks : goal.process_next-returns-in_err-y-clause-walks
 process_next-returns-in_err-y-clause-walks t c =
-    let f = c.args.self.now in
-    let n = c.args.node in
-    rw (raised c.from_residual-in_err-y.result c.in_err-y.field-0.0 c.from_residual-in_err-y.ensures.1) (λ h fuel l.
-    let m1 = c.in_ok-visit_operand.ensures.walks h fuel l in
-    goes m1 _ (stops _ (operand-at f c.visit_operand.new.self c.visit_operand-2.new.self (c.in_ok-visit_operand.ensures.keeps.call) _ n 3 c.in_err-y.ensures.walks m1.held fuel l)))
+    onward _ c.in_ok-visit_operand.ensures.keeps c.in_ok-visit_operand.ensures.walks (halts _ c.from_residual-in_err-y.ensures.1 c.in_err-y.ensures.walks)
 
 pub process_next-returns-clause-walks : goal.process_next-returns-clause-walks
 process_next-returns-clause-walks t c =
-    let f = c.args.self.now in
-    let n = c.args.node in
-    λ h fuel l.
-    let m1 = c.in_ok-visit_operand.ensures.walks h fuel l in
-    let m2 = operand-at f c.visit_operand.new.self c.visit_operand-2.new.self (c.in_ok-visit_operand.ensures.keeps.call) _ n 3 c.in_ok-y.ensures.walks m1.held fuel l in
-    goes m1 _ (goes m2 _ (row-settled f c.visit_operand-2.new.self c.put_row.new.self c.settle.new.self (c.in_ok-y.ensures.keeps.call ∙ c.in_ok-visit_operand.ensures.keeps.call) n c.put_row.ensures.keeps.call _ (λ g ways σ. settle (table_of g) ways n σ stays) c.put_row.ensures.puts_row c.operand-state.ensures refl c.operand-c.ensures c.settle.ensures.settles m2.held))
+    onward _ c.in_ok-visit_operand.ensures.keeps c.in_ok-visit_operand.ensures.walks (onward _ c.in_ok-y.ensures.keeps c.in_ok-y.ensures.walks
+    (row-settled (λ g ways σ. settle (table_of g) ways c.args.node σ stays) _ _ _ c.put_row.ensures.keeps c.put_row.ensures.puts_row c.operand-state.ensures refl c.operand-c.ensures c.settle.ensures.settles))
 
 -- ---- process_one
 
 pub process_one-visit_operand-requires : goal.process_one-visit_operand-requires
 process_one-visit_operand-requires t c =
-    (omega (arith, c.decreases), (c.requires.ready, (omega arith, ready-before _ _ c.requires.ready _ c.requires.form)))
+    (omega (arith, c.decreases), first-operand c.requires)
 
 pub process_one-returns-in_err-x-clause-walks : goal.process_one-returns-in_err-x-clause-walks
-process_one-returns-in_err-x-clause-walks t c =
-    rw (raised c.from_residual.result c.in_err-x.field-0.0 c.from_residual.ensures.1) (λ h fuel l. stops _ (c.in_err-x.ensures.walks h fuel l))
+process_one-returns-in_err-x-clause-walks t c = halts _ c.from_residual.ensures.1 c.in_err-x.ensures.walks
 
 pub process_one-returns-clause-walks : goal.process_one-returns-clause-walks
 process_one-returns-clause-walks t c =
-    let f = c.args.self.now in
-    let n = c.args.node in
-    λ h fuel l.
-    let m1 = c.in_ok-x.ensures.walks h fuel l in
-    goes m1 _ (row-settled f c.visit_operand.new.self c.put_row.new.self c.after_one.new.self (c.in_ok-x.ensures.keeps.call) n c.put_row.ensures.keeps.call _ (λ g ways σ. after_one g ways c.args.rule σ n c.in_ok-x.x) c.put_row.ensures.puts_row refl c.operand-b.ensures c.operand-c.ensures c.after_one.ensures.settles m1.held)
+    onward _ c.in_ok-x.ensures.keeps c.in_ok-x.ensures.walks
+    (row-settled (λ g ways σ. after_one g ways c.args.rule σ c.args.node c.in_ok-x.x) _ _ _ c.put_row.ensures.keeps c.put_row.ensures.puts_row refl c.operand-b.ensures c.operand-c.ensures c.after_one.ensures.settles)
 
 -- ---- process_three
 
 pub process_three-visit_operand-requires : goal.process_three-visit_operand-requires
 process_three-visit_operand-requires t c =
-    (omega (arith, c.decreases), (c.requires.ready, (omega arith, (ready-before _ _ c.requires.ready _ c.requires.form).0)))
+    (omega (arith, c.decreases), first-operand c.requires)
 
 pub process_three-returns-in_err-x-clause-walks : goal.process_three-returns-in_err-x-clause-walks
-process_three-returns-in_err-x-clause-walks t c =
-    rw (raised c.from_residual.result c.in_err-x.field-0.0 c.from_residual.ensures.1) (λ h fuel l. stops _ (c.in_err-x.ensures.walks h fuel l))
+process_three-returns-in_err-x-clause-walks t c = halts _ c.from_residual.ensures.1 c.in_err-x.ensures.walks
 
 pub process_three-visit_operand-requires-2 : goal.process_three-visit_operand-requires-2
 process_three-visit_operand-requires-2 t c =
-    let n = c.args.node in
-    let b = ready-before _ _ c.requires.ready _ c.requires.form in
-    (omega (arith, c.decreases), (c.in_ok-x.ensures.ready, (omega arith, before-on c.args.self.now c.visit_operand.new.self c.in_ok-x.ensures.keeps n 3 (b.1))))
+    (omega (arith, c.decreases), (c.in_ok-x.ensures.ready, (omega arith, before-on 3 c.in_ok-x.ensures.keeps (operands-before c.requires).1)))
 
 pub process_three-returns-in_err-y-clause-walks : goal.process_three-returns-in_err-y-clause-walks
 process_three-returns-in_err-y-clause-walks t c =
-    let f = c.args.self.now in
-    let n = c.args.node in
-    rw (raised c.from_residual-in_err-y.result c.in_err-y.field-0.0 c.from_residual-in_err-y.ensures.1) (λ h fuel l.
-    let m1 = c.in_ok-x.ensures.walks h fuel l in
-    goes m1 _ (stops _ (operand-at f c.visit_operand.new.self c.visit_operand-2.new.self (c.in_ok-x.ensures.keeps.call) _ n 3 c.in_err-y.ensures.walks m1.held fuel l)))
+    onward _ c.in_ok-x.ensures.keeps c.in_ok-x.ensures.walks (halts _ c.from_residual-in_err-y.ensures.1 c.in_err-y.ensures.walks)
 
 pub process_three-visit_operand-requires-3 : goal.process_three-visit_operand-requires-3
 process_three-visit_operand-requires-3 t c =
-    let n = c.args.node in
-    let b = ready-before _ _ c.requires.ready _ c.requires.form in
-    (omega (arith, c.decreases), (c.in_ok-y.ensures.ready, (omega arith, before-on c.visit_operand.new.self c.visit_operand-2.new.self c.in_ok-y.ensures.keeps n 4 (before-on c.args.self.now c.visit_operand.new.self c.in_ok-x.ensures.keeps n 4 (b.2)))))
+    (omega (arith, c.decreases), (c.in_ok-y.ensures.ready, (omega arith, before-on 4 c.in_ok-y.ensures.keeps (before-on 4 c.in_ok-x.ensures.keeps (operands-before c.requires).2))))
 
 pub process_three-returns-in_err-z-clause-walks : goal.process_three-returns-in_err-z-clause-walks
 process_three-returns-in_err-z-clause-walks t c =
-    let f = c.args.self.now in
-    let n = c.args.node in
-    rw (raised c.from_residual-in_err-z.result c.in_err-z.field-0.0 c.from_residual-in_err-z.ensures.1) (λ h fuel l.
-    let m1 = c.in_ok-x.ensures.walks h fuel l in
-    let m2 = operand-at f c.visit_operand.new.self c.visit_operand-2.new.self (c.in_ok-x.ensures.keeps.call) _ n 3 c.in_ok-y.ensures.walks m1.held fuel l in
-    goes m1 _ (goes m2 _ (stops _ (operand-at f c.visit_operand-2.new.self c.visit_operand-3.new.self (c.in_ok-y.ensures.keeps.call ∙ c.in_ok-x.ensures.keeps.call) _ n 4 c.in_err-z.ensures.walks m2.held fuel l))))
+    onward _ c.in_ok-x.ensures.keeps c.in_ok-x.ensures.walks (onward _ c.in_ok-y.ensures.keeps c.in_ok-y.ensures.walks (halts _ c.from_residual-in_err-z.ensures.1 c.in_err-z.ensures.walks))
 
 pub process_three-returns-clause-walks : goal.process_three-returns-clause-walks
 process_three-returns-clause-walks t c =
-    let f = c.args.self.now in
-    let n = c.args.node in
-    λ h fuel l.
-    let m1 = c.in_ok-x.ensures.walks h fuel l in
-    let m2 = operand-at f c.visit_operand.new.self c.visit_operand-2.new.self (c.in_ok-x.ensures.keeps.call) _ n 3 c.in_ok-y.ensures.walks m1.held fuel l in
-    let m3 = operand-at f c.visit_operand-2.new.self c.visit_operand-3.new.self (c.in_ok-y.ensures.keeps.call ∙ c.in_ok-x.ensures.keeps.call) _ n 4 c.in_ok-z.ensures.walks m2.held fuel l in
-    goes m1 _ (goes m2 _ (goes m3 _ (row-settled f c.visit_operand-3.new.self c.put_row.new.self c.settle.new.self (c.in_ok-z.ensures.keeps.call ∙ c.in_ok-y.ensures.keeps.call ∙ c.in_ok-x.ensures.keeps.call) n c.put_row.ensures.keeps.call _ (λ g ways σ. settle (table_of g) ways n σ stays) c.put_row.ensures.puts_row refl refl refl c.settle.ensures.settles m3.held)))
+    onward _ c.in_ok-x.ensures.keeps c.in_ok-x.ensures.walks (onward _ c.in_ok-y.ensures.keeps c.in_ok-y.ensures.walks (onward _ c.in_ok-z.ensures.keeps c.in_ok-z.ensures.walks
+    (row-settled (λ g ways σ. settle (table_of g) ways c.args.node σ stays) _ _ _ c.put_row.ensures.keeps c.put_row.ensures.puts_row refl refl refl c.settle.ensures.settles)))
 
 -- ---- process_two
 
 pub process_two-visit_operand-requires : goal.process_two-visit_operand-requires
 process_two-visit_operand-requires t c =
-    (omega (arith, c.decreases), (c.requires.ready, (omega arith, (ready-before _ _ c.requires.ready _ c.requires.form).0)))
+    (omega (arith, c.decreases), first-operand c.requires)
 
 pub process_two-returns-in_err-x-clause-walks : goal.process_two-returns-in_err-x-clause-walks
-process_two-returns-in_err-x-clause-walks t c =
-    rw (raised c.from_residual.result c.in_err-x.field-0.0 c.from_residual.ensures.1) (λ h fuel l. stops _ (c.in_err-x.ensures.walks h fuel l))
+process_two-returns-in_err-x-clause-walks t c = halts _ c.from_residual.ensures.1 c.in_err-x.ensures.walks
 
 pub process_two-visit_operand-requires-2 : goal.process_two-visit_operand-requires-2
 process_two-visit_operand-requires-2 t c =
-    let n = c.args.node in
-    let b = ready-before _ _ c.requires.ready _ c.requires.form in
-    (omega (arith, c.decreases), (c.in_ok-x.ensures.ready, (omega arith, before-on c.args.self.now c.visit_operand.new.self c.in_ok-x.ensures.keeps n 3 (b.1))))
+    (omega (arith, c.decreases), (c.in_ok-x.ensures.ready, (omega arith, before-on 3 c.in_ok-x.ensures.keeps (operands-before c.requires).1)))
 
 pub process_two-returns-in_err-y-clause-walks : goal.process_two-returns-in_err-y-clause-walks
 process_two-returns-in_err-y-clause-walks t c =
-    let f = c.args.self.now in
-    let n = c.args.node in
-    rw (raised c.from_residual-in_err-y.result c.in_err-y.field-0.0 c.from_residual-in_err-y.ensures.1) (λ h fuel l.
-    let m1 = c.in_ok-x.ensures.walks h fuel l in
-    goes m1 _ (stops _ (operand-at f c.visit_operand.new.self c.visit_operand-2.new.self (c.in_ok-x.ensures.keeps.call) _ n 3 c.in_err-y.ensures.walks m1.held fuel l)))
+    onward _ c.in_ok-x.ensures.keeps c.in_ok-x.ensures.walks (halts _ c.from_residual-in_err-y.ensures.1 c.in_err-y.ensures.walks)
 
 pub process_two-returns-clause-walks : goal.process_two-returns-clause-walks
 process_two-returns-clause-walks t c =
-    let f = c.args.self.now in
-    let n = c.args.node in
-    λ h fuel l.
-    let m1 = c.in_ok-x.ensures.walks h fuel l in
-    let m2 = operand-at f c.visit_operand.new.self c.visit_operand-2.new.self (c.in_ok-x.ensures.keeps.call) _ n 3 c.in_ok-y.ensures.walks m1.held fuel l in
-    goes m1 _ (goes m2 _ (row-settled f c.visit_operand-2.new.self c.put_row.new.self c.after_two.new.self (c.in_ok-y.ensures.keeps.call ∙ c.in_ok-x.ensures.keeps.call) n c.put_row.ensures.keeps.call _ (λ g ways σ. after_two g ways c.args.pair σ n c.in_ok-x.x c.in_ok-y.y) c.put_row.ensures.puts_row refl refl c.operand-c.ensures c.after_two.ensures.settles m2.held))
+    onward _ c.in_ok-x.ensures.keeps c.in_ok-x.ensures.walks (onward _ c.in_ok-y.ensures.keeps c.in_ok-y.ensures.walks
+    (row-settled (λ g ways σ. after_two g ways c.args.pair σ c.args.node c.in_ok-x.x c.in_ok-y.y) _ _ _ c.put_row.ensures.keeps c.put_row.ensures.puts_row refl refl c.operand-c.ensures c.after_two.ensures.settles))
 
 pub process_two-after_two-requires-clause-falls : goal.process_two-after_two-requires-clause-falls
 process_two-after_two-requires-clause-falls t c =
@@ -340,9 +239,6 @@ process_two-after_two-requires-clause-falls t c =
     row-falls f2 c.put_row.new.self c.put_row.ensures.keeps c.args.pair c.args.node _ _ _ (c.requires.form ∙ ap (λ (d : Call). form_at d.given.now c.args.node) (sym same)) c.put_row.ensures.puts_row (ready-falls f2 c.args.node c.in_ok-y.ensures.ready)
 
 -- ---- visit
-
-pub visit-mark_of-requires : goal.visit-mark_of-requires
-visit-mark_of-requires t c = laid-place c.args.self.now c.args.node c.requires.laid c.requires.node_bound
 
 pub visit-process-requires : goal.visit-process-requires
 visit-process-requires t c =
@@ -357,25 +253,25 @@ visit-returns-in-Fresh-clause-walks t c =
 
 pub visit-returns-in-Kept-clause-walks : goal.visit-returns-in-Kept-clause-walks
 visit-returns-in-Kept-clause-walks t c =
-    let f = c.args.self.now in
-    let g = given_in f in
-    let ways = ways_of f.call in
-    let n = c.args.node in
-    λ h. deep (λ k. Meets f (Ok n) (visit_of g ways k (seen h f) n)) n (λ k l. again_kept f ways k h n c.requires.node_bound (sym c.mark_of.ensures ∙ ap mark_is c.in-Kept.is))
+    visited-kept c.args.self.now c.args.node c.requires.node_bound (sym c.mark_of.ensures ∙ ap mark_is c.in-Kept.is)
 
 pub visit-returns-in-Replaced-clause-walks : goal.visit-returns-in-Replaced-clause-walks
 visit-returns-in-Replaced-clause-walks t c =
+    visited-replaced c.args.self.now c.args.node c.in-Replaced.by c.requires.node_bound (sym c.mark_of.ensures ∙ ap mark_is c.in-Replaced.is)
+
+pub visit-returns-in-Fresh-clause-laid : goal.visit-returns-in-Fresh-clause-laid
+visit-returns-in-Fresh-clause-laid t c =
     let f = c.args.self.now in
-    let g = given_in f in
-    let ways = ways_of f.call in
+    let f1 = c.process.new.self in
     let n = c.args.node in
-    λ h. deep (λ k. Meets f (Ok c.in-Replaced.by) (visit_of g ways k (seen h f) n)) n (λ k l. again_replaced f ways k h n c.requires.node_bound c.in-Replaced.by (sym c.mark_of.ensures ∙ ap mark_is c.in-Replaced.is))
+    let walks = visited-fresh f f1 c.process.result n c.requires.node_bound (sym c.mark_of.ensures ∙ ap mark_is c.in-Fresh.is) c.process.ensures.walks in
+    on-ok c.process.result _ (λ a is. laid-after f f1 n a c.process.ensures.keeps c.requires.laid c.requires.node_bound (rw is at walks))
 
 -- ---- visit_operand
 
 pub visit_operand-returns-clause-walks : goal.visit_operand-returns-clause-walks
 visit_operand-returns-clause-walks t c =
-    λ h fuel l. rw c.operand-at.ensures at (c.visit.ensures.walks h fuel (omega (arith, c.operand-at.ensures, c.requires.before, l)))
+    record { walked = λ h fuel l. rw c.operand-at.ensures at (c.visit.ensures.walks.walked h fuel (omega (arith, c.operand-at.ensures, c.requires.before, l))) }
 
 pub visit_operand-returns-clause-ready : goal.visit_operand-returns-clause-ready
 visit_operand-returns-clause-ready t c =

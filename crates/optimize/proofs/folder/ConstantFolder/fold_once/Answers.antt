@@ -1,5 +1,6 @@
 -- The initial bads, then the last question about those that stay.
 -- Assumes nothing.
+use mathlib.Core.Path.{refl}
 use native.Mathlib.Omega.{arith}
 use Rattle.optimize.proofs.Asks.{raised}
 use Rattle.optimize.proofs.BadsJoined.{once_first, once_last, once_end, over-asked}
@@ -14,7 +15,7 @@ pub put_last_question-requires : goal.put_last_question-requires
 put_last_question-requires c =
     let laid = c.in_ok-staying.ensures.laid in
     let spare = c.in_ok-staying.ensures.spare 1 c.requires.underway.spare in
-    ((omega (arith, laid.whole), laid.small), omega (arith, spare))
+    omega (arith, spare)
 
 pub returns-in_err-verdict-clause-folds_once : goal.returns-in_err-verdict-clause-folds_once
 returns-in_err-verdict-clause-folds_once c =
@@ -23,10 +24,8 @@ returns-in_err-verdict-clause-folds_once c =
 
 pub returns-clause-folds_once : goal.returns-clause-folds_once
 returns-clause-folds_once c =
-    once_end c.args.self.now c.judge_bads.new.self c.args.initial.now c.judge_bads.new.kept c.put_last_question.new.self c.judge_bads.ensures.keeps.call c.in_ok-staying.staying c.in_ok-staying.ensures.judges_bads c.in_ok-verdict.verdict c.in_ok-verdict.ensures.answers_last
+    once_end c.args.self.now c.judge_bads.new.self c.args.initial.now c.judge_bads.new.kept c.put_last_question.new.self c.judge_bads.ensures.keeps.call c.in_ok-staying.staying c.in_ok-staying.ensures.judges_bads c.in_ok-verdict.verdict c.in_ok-verdict.ensures.answers_last _ refl
 
 pub returns-clause-over : goal.returns-clause-over
 returns-clause-over c =
-    over-asked c.judge_bads.new.self c.put_last_question.new.self c.in_ok-staying.ensures.laid
-    (c.in_ok-staying.ensures.spare 1 c.requires.underway.spare)
-    c.put_last_question.ensures.keeps c.put_last_question.ensures.at_most c.put_last_question.ensures.result_stays
+    over-asked c.judge_bads.new.self c.put_last_question.new.self c.in_ok-staying.ensures.laid c.put_last_question.ensures.keeps c.put_last_question.ensures.result_stays

@@ -7,4 +7,4 @@ use Rattle.optimize.proofs.folder.ConstantFolder.push.Goals as goal
 pub returns-clause-pushes : goal.returns-clause-pushes
 returns-clause-pushes c =
     let f = c.args.self.now in
-    λ h. pushed h f.call.given.now _ _ f.res.now f.scratch.now f.walk _ _ _ c.node_count-n.ensures (omega (arith, c.node_count-n.ensures, c.requires.has_rows.room, c.requires.made_bound))
+    λ h. pushed h f.call.given.now _ _ f.res.now f.scratch.now f.walk _ _ _ c.node_count-n.ensures.value (omega (arith, c.node_count-n.ensures.value, f.room, c.requires))

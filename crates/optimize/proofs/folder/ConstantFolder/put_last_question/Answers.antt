@@ -18,7 +18,7 @@ returns-in_err-ask-in-len1-clause-answers_last c =
 
 pub returns-in_ok-ask-in-len1-clause-answers_last : goal.returns-in_ok-ask-in-len1-clause-answers_last
 returns-in_ok-ask-in-len1-clause-answers_last c =
-    λ h m how e. verdict-reply h c.ask.new.self _ _ _ (c.in_ok-ask-in-len1.ensures.asks h) c.verdict_of.ensures ∙ last_one m how h c.args.self.now c.args.bads.now _ e (omega (arith, c.in-len1.len_at_least, c.in-len1.len_below)) _ refl
+    λ h m how e. verdict-reply h c.ask.new.self _ _ _ (c.in_ok-ask-in-len1.ensures.asks h) c.from.ensures ∙ last_one m how h c.args.self.now c.args.bads.now _ e (omega (arith, c.in-len1.len_at_least, c.in-len1.len_below)) _ refl
 
 pub returns-in_err-ask-in_default-clause-answers_last : goal.returns-in_err-ask-in_default-clause-answers_last
 returns-in_err-ask-in_default-clause-answers_last c =
@@ -28,4 +28,4 @@ returns-in_err-ask-in_default-clause-answers_last c =
 
 pub returns-in_ok-ask-in_default-clause-answers_last : goal.returns-in_ok-ask-in_default-clause-answers_last
 returns-in_ok-ask-in_default-clause-answers_last c =
-    λ h m how e. verdict-reply h c.ask-in_default.new.self _ _ _ (c.in_ok-ask-in_default.ensures.asks h) c.verdict_of-in_default.ensures ∙ last_many m how h c.args.self.now c.args.bads.now _ e (omega (arith, c.in_default.len_at_least))
+    λ h m how e. verdict-reply h c.ask-in_default.new.self _ _ _ (c.in_ok-ask-in_default.ensures.asks h) c.from-in_default.ensures ∙ last_many m how h c.args.self.now c.args.bads.now _ e (omega (arith, c.in_default.len_at_least))

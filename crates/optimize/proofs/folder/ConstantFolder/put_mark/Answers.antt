@@ -10,5 +10,5 @@ use Rattle.optimize.proofs.folder.ConstantFolder.put_mark.Goals as goal
 pub returns-clause-puts_mark : goal.returns-clause-puts_mark
 returns-clause-puts_mark c =
     let f = c.args.self.now in
-    λ h. marked h f.call.given.now _ _ f.res.now f.scratch.now f.walk _ _ _ _ _ c.node_count-n.ensures refl c.requires.inside (omega (arith, c.node_count-n.ensures, c.requires.inside, c.requires.marks))
-    ∙ ap (set_mark (seen h f) c.args.node) c.words-word.ensures
+    λ h. marked h f.call.given.now _ _ f.res.now f.scratch.now f.walk _ _ _ _ _ c.node_count-n.ensures.value refl c.requires (omega (arith, c.node_count-n.ensures.value, c.requires, f.asks))
+    ∙ ap (set_mark (seen h f) c.args.node) c.from-word.ensures

@@ -2,18 +2,14 @@
 -- Assumes nothing.
 use mathlib.Core.Path.{refl}
 use native.Mathlib.Omega.{arith}
-use borrow.Author.Rules.{rules}
-use Rattle.optimize.specs.Folder.{given_in}
 use Rattle.optimize.proofs.Stores.{rowed}
-use Rattle.optimize.proofs.Keeps.{ready-kept, ready-room, room_row}
+use Rattle.optimize.proofs.Keeps.{ready-kept, ready-room}
 use Rattle.optimize.proofs.folder.ConstantFolder.put_row.Goals as goal
 
 pub returns-clause-puts_row : goal.returns-clause-puts_row
 returns-clause-puts_row c =
     let f = c.args.self.now in
-    λ h. rowed h f.call.given.now _ _ f.res.now f.scratch.now f.walk _ _ _ _ _ _ _ c.requires.inside (omega (arith, c.requires.inside, c.requires.laid.room)) (ready-kept f c.args.node c.requires) refl refl refl
+    λ h. rowed h f.call.given.now _ _ f.res.now f.scratch.now f.walk _ _ _ _ _ _ _ c.requires.inside (omega (arith, c.requires.inside, f.room)) (ready-kept f c.args.node c.requires) refl refl refl
 
 pub returns-clause-room : goal.returns-clause-room
-returns-clause-room c =
-    let f = c.args.self.now in
-    room_row (given_in f) f.res.now _ f.scratch.now f.walk c.args.node (search rules) (ready-room f c.args.node c.requires)
+returns-clause-room c = ready-room c.args.self.now c.args.node c.requires

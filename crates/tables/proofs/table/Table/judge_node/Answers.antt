@@ -19,7 +19,7 @@ pub returns-in-Ok : goal.returns-in-Ok
 returns-in-Ok c =
     let t = nodes_of c.args.self in
     c.judge_known.ensures
-    ∙ broken_is c.args.names t c.args.node (row_is c.row_at.result) (node_is c.in-Ok.row) c.in-Ok.ensures
+    ∙ broken_is c.args.names t c.args.node (row_is c.row_at.result) (node_is c.in-Ok.known) c.in-Ok.ensures
     ∙ ap (check_node c.args.names t c.args.node) (here (goal.at.returns-in-Ok c).After-row_at)
 
 pub returns-in-Err : goal.returns-in-Err

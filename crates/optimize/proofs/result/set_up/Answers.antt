@@ -1,8 +1,0 @@
--- `set_up` leaves the state at the start of the walk: by SetUpLaws, from what the copies and the clearing leave.
--- Assumes nothing.
-use Rattle.optimize.proofs.SetUpLaws.{set_up_left}
-use Rattle.optimize.proofs.result.set_up.Goals as goal
-
-pub returns : goal.returns
-returns c =
-    set_up_left c.args.given.now c.args.res.now c.args.scratch.now _ _ _ _ _ c.requires c.node_count-n.ensures c.copy_from_slice.ensures.after c.copy_from_slice-2.ensures.after (c.fill.ensures.after (λ y e. e))
