@@ -1,5 +1,6 @@
 // For C and Rust: the three entry points and the label of a node, as a static library. The answer is a struct of words; both lent buffers are
-// left as the rules say. include/gemtweed.h says how they are called.
+// left as the rules say. include/gemtweed.h says how they are called: mode, words, names and buffers stand beside one another, and the mode is a number, as
+// that is the C interface.
 #![tactic(auto)]
 
 ghost use Rattle.std.specs.Prelude.{◌≡◌, length};

@@ -1,5 +1,5 @@
 // Names by the place of their length byte, over the bytes and a number, by the house's limits. The reader is made of these. Bytes and place stand beside
-// one another as the functions are public, and their signatures may not change.
+// one another as the functions are public, and what they take may not change.
 #![tactic(auto, using(crate::proofs::PlaceLaws::places))]
 
 ghost use Rattle.std.specs.Prelude.{◌≡◌};

@@ -1,6 +1,6 @@
 // A reader that holds the names bytes and its place, and name `k` by way of it.
-// The functions over the reader are thin: each takes it apart and leaves the work to a function on the bytes and the place. `next` takes the reader as it
-// is, and so is that of no Iterator: its public signature may not change.
+// The functions over the reader are thin: each takes it apart and leaves the work to a function on the bytes and the place. `next` is that of
+// no Iterator: as a public function it takes the reader by value, and may not change that.
 ghost use Rattle.std.specs.Prelude.{◌≡◌};
 ghost use Rattle.names.specs.Reading.{next_of, next_at, name_at, after_at, begins_at, name_in};
 

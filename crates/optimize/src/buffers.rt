@@ -1,5 +1,5 @@
 // The rows of a table, read word by word: of the table as given, and of the result buffer, which begins as one. Both are lent as words with the layout
-// of docs/FORMAT.md, and a row is no struct here: the walk reads one to three words of it, and writes its operands in place.
+// of docs/FORMAT.md, and a row is no struct here: each function reads one to three words of it, and its operands are written in place.
 ghost use Rattle.std.specs.Prelude.{◌≡◌};
 ghost use Rattle.rules.specs.Table.{kind_of};
 ghost use Rattle.rules.specs.Sections.{word_of};

@@ -1,5 +1,5 @@
 // The three entry points: a call is judged, folded, and both lent buffers are left as the rules say. Mode, words, names and the buffers stand beside one
-// another in `optimize` and `fold_judged` as in these public functions, whose signatures are those by which C hands a call over and may not change.
+// another in `optimize` and `fold_judged` as in these public functions, whose parameters are those by which C hands a call over and may not change.
 ghost use Rattle.std.specs.Prelude.{◌≡◌, ◌≤◌, length, replicate};
 ghost use Rattle.rules.specs.Limits.{house};
 ghost use Rattle.rules.specs.Call.{left, optimize_model_impl, optimize_model_with_solver, optimize_model_with_input};

@@ -26,7 +26,7 @@ fn choose(condition: bool, left: usize, right: usize) -> usize
 
 impl ConstantFolder<'_> {
     // Visits a node: processes it the first time, and later gives what was recorded. It is compiled into its callers: apart, a chain of nodes takes 14
-    // more instructions a node, and 175 to 271 bytes of stack where it takes 111 (docs/PERFORMANCE.md).
+    // more instructions a node, and 175 to 271 bytes of stack where it takes 111 (docs/DECISIONS.md).
     #[cycle(visit)]
     #[inline(always)]
     pub(crate) fn visit(&mut self, node: usize) -> Result<usize, Refusal>
