@@ -31,9 +31,8 @@ use Rattle.optimize.specs.Bads.{Spare}
 use Rattle.optimize.specs.declared.last_question.Verdict.{Verdict}
 use Rattle.optimize.specs.LastQuestion.{verdict_is, bare_folded}
 use Rattle.optimize.specs.Bounds.{count_of}
-use Rattle.optimize.specs.ResultView.{untouched, folded_in, entries_in, ModelOf, Handed}
-use Rattle.optimize.specs.Ending.{Ended}
-use Rattle.optimize.specs.Runs.{Begun, Underway, Over, Ends, Runs, model_by, model_of, folded_by, bads_of, once_of, folded_of, bared, Folds, FoldsBads, FoldsOnce}
+use Rattle.optimize.specs.ResultView.{untouched, folded_in, ModelOf, Handed}
+use Rattle.optimize.specs.Runs.{Begun, Underway, Ends, Runs, model_by, model_of, folded_by, bads_of, once_of, folded_of, bared, Folds, FoldsBads, FoldsOnce}
 use Rattle.optimize.specs.Clauses.{WalksAll, HandsOver}
 use Rattle.optimize.proofs.Keeps.{seen_by}
 use Rattle.optimize.proofs.Steps.{table-length}
@@ -145,13 +144,6 @@ module _ (f : ConstantFolder) (l : Lists) (seqs : List ℕ) (room : ℕ) (b : Be
     module _ (f₂ : ConstantFolder) (n : Keeps f₁ f₂) where
       same : f₂.call ≡ c
       same = n.call ∙ k.call
-
-      -- the writer of the result has what it needs, whichever of the lists are kept
-      pub run-ended : Over f₂ → (kept : Lists) → entries_in kept ≤ length seqs + length initial + length later → Ended f₂ kept
-      run-ended o kept few =
-          let nodes : count_in f₂ ≡ count_in f = ap (λ (d : Call). count_of d.given.now) same in
-          let inputs : length f₂.call.inputs.now ≡ length c.inputs.now = ap (λ (d : Call). length d.inputs.now) same in
-          record { known = o; room = omega (arith, nodes, inputs, few, f₂.made, f₂.asks, b.fewer, b.place, b.runnable.room, n.res_length, k.res_length, n.scratch_length, k.scratch_length) }
 
       -- ---- both lists
       module _ (off : c.mode.one_query ≡ false) where

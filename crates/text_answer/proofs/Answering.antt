@@ -1,7 +1,6 @@
 -- The stages of a text after its numbers: the first refusal, or the call.
 --     shown_at           what was printed where there was room is shown
 --     mode-refused, sections-refused, names-refused, call-is   the stages
---     accepted_shown, refused_shown   what is printed of the call's answer
 -- Assumes nothing.
 use Prim.Native.Nat.{ℕ, zero, suc, ◌+◌, ◌-◌, ◌<◌, ◌≤◌}
 use mathlib.Core.Path.{◌≡◌, refl, sym, ap, ap₂, ◌∙◌, subst}
