@@ -65,3 +65,7 @@ bits_le (Err e) = omega arith
 pub code-width_le : (c : ℕ) → width c ≤ 64
 unfolding width
 code-width_le c = bits_le (sort_of c)
+
+pub width-named : (s : NodeType) → width (code_of s) ≡ width_of s
+unfolding width
+width-named s = ap bits_of (code-names s)

@@ -1,6 +1,6 @@
 -- Laws of the operators on words: products of 16-bit limbs, shifts past the width, signed division by magnitudes, complements.
 -- Assumes nothing.
-use Rattle.std.proofs.Common.{◌≡◌, ℕ, zero, suc, ◌+◌, ◌-◌, ◌*◌, ◌/◌, ◌%◌, ◌^◌, ◌<◌, ◌≤◌, false, pos, negsuc, neg_ℤ, sym, refl, ap, ◌∙◌, subst, lt_of_lt_of_le, add_assoc, mod-lt, mod-eq_of_lt, mul_assoc, mul_comm, add-mul, add_comm, div-add-mod', mul-add, div-le_self, mul_left_comm, arith, pow_pos, pow_mono, pow-add, shr_lt, le-ltb, lt-ltb, ne_eqb}
+use Rattle.std.proofs.Common.{◌≡◌, ℕ, zero, suc, ◌+◌, ◌-◌, ◌*◌, ◌/◌, ◌%◌, ◌^◌, ◌<◌, ◌≤◌, Bool, true, false, cond, ltb, pos, negsuc, neg_ℤ, sym, refl, ap, ◌∙◌, subst, lt_of_lt_of_le, add_assoc, mod-lt, mod-eq_of_lt, mul_assoc, mul_comm, add-mul, add_comm, div-add-mod', mul-add, div-le_self, mul_left_comm, arith, pow_pos, pow_mono, pow-add, shr_lt, le-ltb, lt-ltb, ne_eqb}
 use native.Mathlib.Nat.{add_left_comm, mul-mod_left, div-eq_of_lt}
 use lib.Bits.{bit_and, and_mask}
 use lib.Pow.{low, mod-pow-add}
@@ -59,6 +59,14 @@ magnitude-high x h = simp (le-ltb _ _ h)
 -- how far the word of a negative number is from zero
 suc-high : (x : ℕ) → x < 2 ^ 64 → suc (2 ^ 64 - suc x) ≡ 2 ^ 64 - x
 suc-high x h = omega arith
+
+pub magnitude-pos : (y : ℕ) → y < 2 ^ 64 → (y ≡ 0 → ⊥) → 0 < magnitude y
+unfolding magnitude
+magnitude-pos y h n = go (ltb y (2 ^ 63)) refl
+  where
+    go : (b : Bool) → ltb y (2 ^ 63) ≡ b → 0 < cond b y (2 ^ 64 - y)
+    go true e = omega arith
+    go false e = omega arith
 
 -- the word of the negative of n
 word_negative : (n : ℕ) → n ≤ 2 ^ 63 → word (neg_ℤ (pos n)) ≡ (2 ^ 64 - n) % 2 ^ 64

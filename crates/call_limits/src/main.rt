@@ -5,6 +5,9 @@ use case_list::case::LimitCase;
 use kept_lists::replay::replay;
 use std::process::ExitCode;
 
+// The most numbers of a line: 4,096 nodes as given and as they are left, 16,384 replies and 8,189 questions.
+const MOST: usize = 100000;
+
 fn main(rt: HostRuntime) -> ExitCode {
-    replay::<LimitCase, _>(&rt, "calls.list")
+    replay::<LimitCase<MOST>, _>(&rt, "calls.list")
 }

@@ -1,6 +1,5 @@
 // The entry points, by the numbers that a list has for them. The `Entry` of optimize is not public: what is tried here is its public functions.
 use crate::model::Model;
-use kept_lists::case::Fault;
 use optimize::optimize::{
     optimize_model_impl, optimize_model_with_input, optimize_model_with_solver,
 };
@@ -13,15 +12,13 @@ pub enum EntryPoint {
     WithInput,
 }
 
-impl TryFrom<u64> for EntryPoint {
-    type Error = Fault;
-
-    fn try_from(number: u64) -> Result<EntryPoint, Fault> {
+// A number above the last stands for the last.
+impl From<u64> for EntryPoint {
+    fn from(number: u64) -> EntryPoint {
         match number {
-            0 => Ok(EntryPoint::Impl),
-            1 => Ok(EntryPoint::WithSolver),
-            2 => Ok(EntryPoint::WithInput),
-            _ => Err(Fault::Malformed),
+            0 => EntryPoint::Impl,
+            1 => EntryPoint::WithSolver,
+            _ => EntryPoint::WithInput,
         }
     }
 }

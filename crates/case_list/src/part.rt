@@ -10,6 +10,9 @@ use std::alloc::Global;
 // The most numbers of a part: a table with every count at its limit, or 4,096 names of 64 bytes, and some over.
 const MOST_NUMBERS: usize = 320000;
 
+// The most numbers in brackets.
+const MOST_MEMBERS: usize = 80;
+
 // A number in brackets, and by how much it grows.
 #[derive(Clone, Copy)]
 struct Member {
@@ -76,11 +79,18 @@ impl Part {
         let members: Vec<Member> = group
             .split(' ')
             .filter(|word| !word.is_empty())
+            .take(MOST_MEMBERS + 1)
             .map(Member::read)
             .try_collect(*self.numbers.allocator())?;
-        if times == 0 || members.is_empty() {
+        if times == 0 || members.is_empty() || members.len() > MOST_MEMBERS {
             return Err(Fault::Malformed);
         }
+        let size = times.saturating_mul(members.len() as u64);
+        if size > (MOST_NUMBERS - self.numbers.len()) as u64 {
+            return Err(Fault::Malformed);
+        }
+        // For all of them at once, as a vector that grows stands beside the smaller one.
+        self.numbers.reserve(size as usize)?;
         for time in 0..times {
             for member in &members {
                 self.push(member.at(time))?;
@@ -136,6 +146,7 @@ mod tests {
             "(1(2))",
             "a(1)",
             "320001(1)",
+            "160001(1 2)",
         ];
         for text in parts {
             let part = Part::read(rt.alloc(), text);

@@ -1,8 +1,12 @@
-// The answer of a fold by the C calling convention: a struct of words.
-ghost use Rattle.std.specs.Prelude.{◌≡◌};
+// The three entry points by the C calling convention. The answer is a struct of words; both lent buffers are left as the rules say.
+ghost use Rattle.std.specs.Prelude.{◌≡◌, length};
+ghost use Rattle.rules.specs.Call.{optimize_model_impl, optimize_model_with_solver, optimize_model_with_input};
 ghost use Rattle.optimize.specs.Entries.{answered};
 ghost use Rattle.gemtweed.specs.Answers.{answer_is};
 
+use optimize::optimize::{
+    optimize_model_impl, optimize_model_with_input, optimize_model_with_solver,
+};
 use tables::refusal::Refusal;
 
 // Words one after the other, as C reads them.
@@ -35,4 +39,48 @@ impl From<Result<usize, Refusal>> for GemtweedAnswer {
             },
         }
     }
+}
+
+// The reference: inputs and replies both count.
+pub fn gemtweed_optimize_model_impl(
+    mode: u64,
+    words: &[u64],
+    names: &[u8],
+    res: &mut [u64],
+    scratch: &mut [u64],
+) -> GemtweedAnswer
+    ensures result_value { answer_is result ≡ (optimize_model_impl mode words.now names.now (length res.old) (length scratch.old)).answer }
+    ensures res_after { res.new ≡ (optimize_model_impl mode words.now names.now (length res.old) (length scratch.old)).result }
+    ensures scratch_after { scratch.new ≡ (optimize_model_impl mode words.now names.now (length res.old) (length scratch.old)).scratch }
+{
+    GemtweedAnswer::from(optimize_model_impl(mode, words, names, res, scratch))
+}
+
+// The inputs do not count.
+pub fn gemtweed_optimize_model_with_solver(
+    mode: u64,
+    words: &[u64],
+    names: &[u8],
+    res: &mut [u64],
+    scratch: &mut [u64],
+) -> GemtweedAnswer
+    ensures result_value { answer_is result ≡ (optimize_model_with_solver mode words.now names.now (length res.old) (length scratch.old)).answer }
+    ensures res_after { res.new ≡ (optimize_model_with_solver mode words.now names.now (length res.old) (length scratch.old)).result }
+    ensures scratch_after { scratch.new ≡ (optimize_model_with_solver mode words.now names.now (length res.old) (length scratch.old)).scratch }
+{
+    GemtweedAnswer::from(optimize_model_with_solver(mode, words, names, res, scratch))
+}
+
+// Mode 0, and the replies do not count.
+pub fn gemtweed_optimize_model_with_input(
+    words: &[u64],
+    names: &[u8],
+    res: &mut [u64],
+    scratch: &mut [u64],
+) -> GemtweedAnswer
+    ensures result_value { answer_is result ≡ (optimize_model_with_input words.now names.now (length res.old) (length scratch.old)).answer }
+    ensures res_after { res.new ≡ (optimize_model_with_input words.now names.now (length res.old) (length scratch.old)).result }
+    ensures scratch_after { scratch.new ≡ (optimize_model_with_input words.now names.now (length res.old) (length scratch.old)).scratch }
+{
+    GemtweedAnswer::from(optimize_model_with_input(words, names, res, scratch))
 }

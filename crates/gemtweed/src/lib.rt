@@ -1,5 +1,5 @@
-// What the exported functions for C and Rust answer: the words of a fold's answer, and a label laid in a lent buffer.
+// For C and Rust: the three entry points and the label of a node, which `gemtweed_c` exports as a static library. include/gemtweed.h says how they are called.
 #![tactic(auto)]
 
-pub mod fold; // fold.rt: the answer of a fold, in words
-pub mod label; // label.rt: a label, copied out
+pub mod fold; // fold.rt: the three entry points
+pub mod label; // label.rt: the label of a node, copied out

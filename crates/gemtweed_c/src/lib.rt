@@ -1,6 +1,6 @@
-// For C and Rust: the three entry points and the label of a node, as a static library. The answer is a struct of words; both lent buffers are
-// left as the rules say. include/gemtweed.h says how they are called: mode, words, names and buffers stand beside one another, and the mode is a number, as
-// that is the C interface.
+// For C and Rust: the three entry points and the label of a node, as a static library: each calls the function of its name in `gemtweed` and promises
+// the same. include/gemtweed.h says how they are called: mode, words, names and buffers stand beside one another, and the mode is a number, as that is the
+// C interface.
 #![tactic(auto)]
 
 ghost use Rattle.std.specs.Prelude.{◌≡◌, length};
@@ -10,12 +10,6 @@ ghost use Rattle.rules.specs.Label.{label_of};
 ghost use Rattle.gemtweed.specs.Answers.{answer_is, laid_in};
 
 use gemtweed::fold::GemtweedAnswer;
-use gemtweed::label::lay;
-use optimize::optimize::{
-    optimize_model_impl, optimize_model_with_input, optimize_model_with_solver,
-};
-use tables::label::label;
-use tables::limits::Limits;
 
 // The reference: inputs and replies both count.
 #[unsafe(no_mangle)]
@@ -30,7 +24,7 @@ pub extern "C" fn gemtweed_optimize_model_impl(
     ensures res_after { res.new ≡ (optimize_model_impl mode words.now names.now (length res.old) (length scratch.old)).result }
     ensures scratch_after { scratch.new ≡ (optimize_model_impl mode words.now names.now (length res.old) (length scratch.old)).scratch }
 {
-    GemtweedAnswer::from(optimize_model_impl(mode, words, names, res, scratch))
+    gemtweed::fold::gemtweed_optimize_model_impl(mode, words, names, res, scratch)
 }
 
 // The inputs do not count.
@@ -46,7 +40,7 @@ pub extern "C" fn gemtweed_optimize_model_with_solver(
     ensures res_after { res.new ≡ (optimize_model_with_solver mode words.now names.now (length res.old) (length scratch.old)).result }
     ensures scratch_after { scratch.new ≡ (optimize_model_with_solver mode words.now names.now (length res.old) (length scratch.old)).scratch }
 {
-    GemtweedAnswer::from(optimize_model_with_solver(mode, words, names, res, scratch))
+    gemtweed::fold::gemtweed_optimize_model_with_solver(mode, words, names, res, scratch)
 }
 
 // Mode 0, and the replies do not count.
@@ -61,7 +55,7 @@ pub extern "C" fn gemtweed_optimize_model_with_input(
     ensures res_after { res.new ≡ (optimize_model_with_input words.now names.now (length res.old) (length scratch.old)).result }
     ensures scratch_after { scratch.new ≡ (optimize_model_with_input words.now names.now (length res.old) (length scratch.old)).scratch }
 {
-    GemtweedAnswer::from(optimize_model_with_input(words, names, res, scratch))
+    gemtweed::fold::gemtweed_optimize_model_with_input(words, names, res, scratch)
 }
 
 // The label's length. The label is copied to the front of `out`, if it has room for all of it; else `out` stays as it is.
@@ -76,5 +70,5 @@ pub extern "C" fn gemtweed_label<'a>(
     ensures value { result ≡ length (label_of house node words.now names.now substitute.now) }
     ensures out_after { out.new ≡ laid_in (label_of house node words.now names.now substitute.now) out.old }
 {
-    lay(label(words, names, substitute, node, Limits::house()), out)
+    gemtweed::label::gemtweed_label(words, names, substitute, node, out)
 }

@@ -1,10 +1,14 @@
 // A line is a case: the code of a node kind, the left and the right operand and the answer, in decimal with single blanks.
 // Not has the sort's code as its right operand, Ext 0.
 use crate::operator::Operator;
-use kept_lists::case::{Case, Fault};
-use kept_lists::parts::{cut_line, number};
+use kept_lists::case::{Case, Fault, ReadFault};
+use kept_lists::list::{Line, List, ends_with_lone_zero};
+use kept_lists::parts::{cut_line, number_in};
 use std::alloc::Global;
-use std::str;
+use std::io::Read;
+
+// Four numbers of 20 digits with a 0 before them, a blank or the line's end after each.
+const LONGEST_LINE: usize = 88;
 
 #[derive(Clone, Copy)]
 pub struct OperatorCase {
@@ -14,27 +18,42 @@ pub struct OperatorCase {
     answer: u64,
 }
 
-fn read_line(alloc: Global, line: &[u8]) -> Result<OperatorCase, Fault> {
-    let line = str::from_utf8(line)?;
-    let numbers: Vec<u64> = line.split(' ').map(number).try_collect(alloc)?;
-    let [code, left, right, answer] = numbers.as_slice() else {
-        return Err(Fault::Malformed);
+fn read_line(line: &[u8]) -> Result<OperatorCase, Fault> {
+    let mut words = line.split(|b| *b == b' ');
+    let mut word = || words.next().ok_or(Fault::Malformed);
+    let case = OperatorCase {
+        operator: number_in(word()?)?.try_into()?,
+        left: number_in(word()?)?,
+        right: number_in(word()?)?,
+        answer: number_in(word()?)?,
     };
-    Ok(OperatorCase {
-        operator: (*code).try_into()?,
-        left: *left,
-        right: *right,
-        answer: *answer,
-    })
+    match words.next() {
+        Some(_) => Err(Fault::Malformed),
+        None => Ok(case),
+    }
+}
+
+impl Line for OperatorCase {
+    fn tells_nothing(line: &[u8], byte: u8) -> bool {
+        byte == b'0' && ends_with_lone_zero(line)
+    }
 }
 
 impl Case for OperatorCase {
-    fn cut(alloc: Global, list: &[u8]) -> Result<(OperatorCase, &[u8]), Fault> {
-        let (line, rest) = cut_line(list)?;
-        Ok((read_line(alloc, line)?, rest))
+    type Bench = ();
+
+    fn bench() {}
+
+    fn read<F: Read + Drop>(list: &mut List<F>, case: &mut Vec<u8>) -> Result<(), ReadFault> {
+        list.read_line::<OperatorCase>(case, LONGEST_LINE)
     }
 
-    fn is_right(&self, _alloc: Global) -> Result<bool, Fault> {
+    fn cut(_alloc: Global, list: &[u8]) -> Result<(OperatorCase, &[u8]), Fault> {
+        let (line, rest) = cut_line(list)?;
+        Ok((read_line(line)?, rest))
+    }
+
+    fn is_right(&self, _alloc: Global, _bench: &mut ()) -> Result<bool, Fault> {
         Ok(self.operator.of(self.left, self.right)? == self.answer)
     }
 }

@@ -144,7 +144,7 @@ module _ (nodes : ℕ) (g : List ℕ) (ways : Ways) (k : ℕ) (o : Out (St × Fo
   unfolding solved_of outcome_of
   settled-stop υ z e = ap (settle_then g ways k) e
 
-  settled_goes : (f : Folded) (υ : St) (r : Result ℕ tables.Refusal) → solved_of nodes τ (Ok f) ≡ o
+  pub settled_goes : (f : Folded) (υ : St) (r : Result ℕ tables.Refusal) → solved_of nodes τ (Ok f) ≡ o
       → outcome_of υ r ≡ settle (table_of g) ways k τ (fold_is nodes f) → outcome_of υ r ≡ settle_then g ways k o
   unfolding solved_of
   settled_goes f υ r e d = d ∙ ap (settle_then g ways k) e

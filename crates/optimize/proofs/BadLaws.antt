@@ -159,7 +159,7 @@ module _ (f f' : ConstantFolder) (how : Judging) (i b : ℕ) (stays : Bool) (l :
   abbrev g : List ℕ
   g = given_in f
 
-  retained_is : (h : List Held) → retain_rule g (ways_of f.call) how i b (seen h f) ≡ done (seen (v h).0 f', judgement stays)
+  pub retained_is : (h : List Held) → retain_rule g (ways_of f.call) how i b (seen h f) ≡ done (seen (v h).0 f', judgement stays)
   unfolding retained_of
   retained_is h = sym (v h).1
 

@@ -51,10 +51,10 @@ module _ (g dumps ins reps ss R S list : List ℕ) (mode : Mode) (legal : AllLeg
   front : view [] g ins reps R S untouched ≡ (judge_sequentials (table_of g) (start (table_of g) ins reps) ss).0
   front = sym (ap (λ (r : St × List ℕ). r.0) e)
 
-  laid-begun : Laid g dumps ins reps mode 0 R S untouched
+  pub laid-begun : Laid g dumps ins reps mode 0 R S untouched
   laid-begun = begins g dumps ins reps mode 0 legal ss R S listed small (omega arith) front
 
-  entries-begun : All (λ k. k < count_of g) list
+  pub entries-begun : All (λ k. k < count_of g) list
   entries-begun =
       subst (λ (c : ℕ). All (λ k. k < c) list) (table-length g)
       (subst (All (λ k. k < length (table_of g))) (ap (λ (r : St × List ℕ). r.1) e) (sequentials_walked (table_of g) ways ins reps legal (start (table_of g) ins reps) ss refl listed).kept)

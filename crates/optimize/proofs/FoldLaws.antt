@@ -24,22 +24,22 @@ pub width-unknown : (code : ℕ) (u : UnknownSort) → sort_of code ≡ Err u �
 unfolding width
 width-unknown code u e = ap bits_of e
 
-ones-known : (code : ℕ) (s : NodeType) → sort_of code ≡ Ok s → ones_of s ≡ ones code
+pub ones-known : (code : ℕ) (s : NodeType) → sort_of code ≡ Ok s → ones_of s ≡ ones code
 unfolding ones
 ones-known code s e = sym (ap (λ (w : ℕ). 2 ^ w - 1) (width-known code s e))
 
-ones-unknown : (code : ℕ) (u : UnknownSort) → sort_of code ≡ Err u → 0 ≡ ones code
+pub ones-unknown : (code : ℕ) (u : UnknownSort) → sort_of code ≡ Err u → 0 ≡ ones code
 unfolding ones
 ones-unknown code u e = sym (ap (λ (w : ℕ). 2 ^ w - 1) (width-unknown code u e))
 
-complement-known : (code : ℕ) (s : NodeType) (x : ℕ) → sort_of code ≡ Ok s → complement (width_of s) x ≡ complement (width code) x
+pub complement-known : (code : ℕ) (s : NodeType) (x : ℕ) → sort_of code ≡ Ok s → complement (width_of s) x ≡ complement (width code) x
 complement-known code s x e = sym (ap (λ (w : ℕ). complement w x) (width-known code s e))
 
 complement-zero : (x : ℕ) → 0 ≡ complement 0 x
 unfolding complement
 complement-zero x = sym (native.Mathlib.Nat.zero-sub _)
 
-complement-unknown : (code x : ℕ) (u : UnknownSort) → sort_of code ≡ Err u → 0 ≡ complement (width code) x
+pub complement-unknown : (code x : ℕ) (u : UnknownSort) → sort_of code ≡ Err u → 0 ≡ complement (width code) x
 complement-unknown code x u e = complement-zero x ∙ sym (ap (λ (w : ℕ). complement w x) (width-unknown code u e))
 
 -- what is made of a sort that a code may name, and 0 where it names none

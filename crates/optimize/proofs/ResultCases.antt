@@ -17,6 +17,11 @@ use Rattle.rules.specs.Sections.{word_of}
 use Rattle.optimize.specs.View.{node_of, firsts, table_of, rows_of, mark_of, view}
 use Rattle.optimize.specs.Demand.{replacements_on, sort_in, byte_table, words_with, SortsCanFail}
 use Rattle.optimize.specs.ResultView.{Finished, ModelOf, folded_in}
+use Rattle.btor.specs.Sorts as btor
+use Rattle.rules.specs.Legal.{AllLegal}
+use Rattle.btor.specs.declared.reading.Reading.TheVariants.{Rust}
+use Rattle.optimize.specs.declared.folder.ConstantFolder.{ConstantFolder}
+use Rattle.optimize.specs.Ending.{Ended}
 use Rattle.optimize.specs.declared.lists.Lists.{Lists}
 use Rattle.optimize.specs.declared.walk.Walk.{Walk}
 
@@ -71,6 +76,39 @@ example-finished x =
       taken = lit≤ tt;
       known = known x;
     }
+
+-- the folder of the example, as the walk leaves it: its table is legal
+pub example-legal : AllLegal (table_of given)
+unfolding table_of firsts btor.width
+example-legal zero h = record { known = refl; before = tt; serve = tt; sorts = tt }
+example-legal (suc zero) h = record { known = refl; before = tt; serve = tt; sorts = (refl, (refl, tt)) }
+example-legal (suc (suc zero)) h = record { known = refl; before = (lit< tt, (lit< tt, tt)); serve = (refl, (refl, tt)); sorts = (refl, (refl, (refl, tt))) }
+example-legal (suc (suc (suc zero))) h = record { known = refl; before = (lit< tt, tt); serve = (refl, tt); sorts = (refl, (refl, tt)) }
+example-legal (suc (suc (suc (suc k)))) h = absurd (omega (arith, h))
+
+abbrev pub example_folder : ℕ → ConstantFolder
+example_folder x =
+    record {
+      call =
+          record {
+            given = record { ref_ptr = (0, 0); now = given };
+            inputs = record { ref_ptr = (0, 0); now = 12 ∷ [] };
+            replies = record { ref_ptr = (0, 0); now = [] };
+            dumps = record { ref_ptr = (0, 0); now = [] };
+            mode = record { minimise = false; terminate = false; one_query = false; reading = Rust };
+            table = record { legal = example-legal; small = lit≤ tt; whole = lit≤ tt };
+          };
+      res = record { ref_ptr = (0, 0); ghost_name = 0; now = result x };
+      scratch = record { ref_ptr = (0, 0); ghost_name = 0; now = scratch x };
+      walk = walk;
+      room = lit≤ tt;
+      asks = lit≤ tt;
+      made = lit≤ tt;
+    }
+
+-- what `write_result` asks of it
+pub example-ended : (x : ℕ) → Ended (example_folder x) none_kept
+example-ended x = record { known = known x; room = lit≤ tt }
 
 pub example-model : ModelOf given (12 ∷ []) [] model
 unfolding table_of firsts

@@ -42,11 +42,11 @@ unfolding outcome_of
 came-done m = sym m.came
 
 -- a refused visit ends what would follow, a done one goes on
-stops : {f f' : ConstantFolder} {z : Refusal} {o : Out (St × ℕ)} (more : St × ℕ → Out (St × ℕ)) → Meets f (Err z) o → Meets f' (Err z) (o >>= more)
+pub stops : {f f' : ConstantFolder} {z : Refusal} {o : Out (St × ℕ)} (more : St × ℕ → Out (St × ℕ)) → Meets f (Err z) o → Meets f' (Err z) (o >>= more)
 unfolding outcome_of
 stops more m = record { held = m.held; came = ap (λ x. x >>= more) m.came }
 
-goes : {f f' : ConstantFolder} {a : ℕ} {r : Result ℕ Refusal} {o : Out (St × ℕ)} (m : Meets f (Ok a) o) (more : St × ℕ → Out (St × ℕ)) → Meets f' r (more (seen m.held f, a)) → Meets f' r (o >>= more)
+pub goes : {f f' : ConstantFolder} {a : ℕ} {r : Result ℕ Refusal} {o : Out (St × ℕ)} (m : Meets f (Ok a) o) (more : St × ℕ → Out (St × ℕ)) → Meets f' r (more (seen m.held f, a)) → Meets f' r (o >>= more)
 goes m more n = record { held = n.held; came = n.came ∙ sym (bind_done _ _ more (came-done m)) }
 
 -- ---- a folder of the same call
@@ -123,7 +123,7 @@ pub undecided-is : (v : ℕ) → (v ≡ 1 → ⊥) → (v ≡ 0 → ⊥) → bra
 undecided-is v a b = rw (ne_eqb v 1 a, ne_eqb v 0 b)
 
 -- ---- a visit by its mark
-deep : (P : ℕ → Type 0) (k : ℕ) → ((f : ℕ) → k ≤ f → P (suc f)) → (f : ℕ) → k + 1 ≤ f → P f
+pub deep : (P : ℕ → Type 0) (k : ℕ) → ((f : ℕ) → k ≤ f → P (suc f)) → (f : ℕ) → k + 1 ≤ f → P f
 deep P k p zero l = let o : ⊥ = omega arith in absurd o
 deep P k p (suc f) l = p f (omega arith)
 
@@ -140,16 +140,16 @@ module _ (g : List ℕ) (ways : Ways) (f : ℕ) (σ : St) (k : ℕ) where
   visit-fresh h e = sym (visit-by fresh e ∙ ap (λ nd. process (table_of g) ways (visit (table_of g) ways f) nd.kind σ k nd) (node_at_lem g k h))
 
 module _ (f : ConstantFolder) (ways : Ways) (fuel : ℕ) (h : List Held) (k : ℕ) (l : k < count_in f) where
-  again_fresh : (f' : ConstantFolder) (r : Result ℕ Refusal) → mark_of (count_in f) f.scratch.now k ≡ fresh
+  pub again_fresh : (f' : ConstantFolder) (r : Result ℕ Refusal) → mark_of (count_in f) f.scratch.now k ≡ fresh
       → Meets f' r (process_of (given_in f) ways (visit_of (given_in f) ways fuel) (seen h f) k) → Meets f' r (visit_of (given_in f) ways (suc fuel) (seen h f) k)
   unfolding view
   again_fresh f' r e m = comes m (visit-fresh (given_in f) ways fuel (seen h f) k l e)
 
-  again_kept : mark_of (count_in f) f.scratch.now k ≡ kept → Meets f (Ok k) (visit_of (given_in f) ways (suc fuel) (seen h f) k)
+  pub again_kept : mark_of (count_in f) f.scratch.now k ≡ kept → Meets f (Ok k) (visit_of (given_in f) ways (suc fuel) (seen h f) k)
   unfolding view outcome_of
   again_kept e = meets h (sym (visit-by (given_in f) ways fuel (seen h f) k kept e))
 
-  again_replaced : (r : ℕ) → mark_of (count_in f) f.scratch.now k ≡ replaced r → Meets f (Ok r) (visit_of (given_in f) ways (suc fuel) (seen h f) k)
+  pub again_replaced : (r : ℕ) → mark_of (count_in f) f.scratch.now k ≡ replaced r → Meets f (Ok r) (visit_of (given_in f) ways (suc fuel) (seen h f) k)
   unfolding view outcome_of
   again_replaced r e = meets h (sym (visit-by (given_in f) ways fuel (seen h f) k (replaced r) e))
 

@@ -15,15 +15,17 @@ pub(crate) enum Mark {
     Replaced(usize),
 }
 
-// The mark that the two words say.
-impl From<(u64, u64)> for Mark {
-    ghost from_gives = { λ words mark. mark_is mark ≡ mark_by words.0 words.1 };
+// The mark that the two words say. The second is lent, and read only where the first says that there is a replacement: before a walk the marks alone
+// are cleared.
+impl From<(u64, &u64)> for Mark {
+    ghost from_gives = { λ words mark. mark_is mark ≡ mark_by words.0 words.1.now };
 
-    fn from(words: (u64, u64)) -> Mark {
-        match words {
-            (0, _) => Mark::Fresh,
-            (1, _) => Mark::Kept,
-            (_, by) => Mark::Replaced(by as usize),
+    fn from(words: (u64, &u64)) -> Mark {
+        let (word, by) = words;
+        match word {
+            0 => Mark::Fresh,
+            1 => Mark::Kept,
+            _ => Mark::Replaced(*by as usize),
         }
     }
 }
@@ -48,7 +50,8 @@ impl ConstantFolder<'_> {
         ensures { mark_is result ≡ mark_of (count_in self.now) self.now.scratch.now node }
     {
         let n = self.call.node_count();
-        Mark::from((self.scratch[node], self.scratch[n + node]))
+        let scratch = &*self.scratch;
+        Mark::from((scratch[node], &scratch[n + node]))
     }
 
     // Puts the mark of a node.

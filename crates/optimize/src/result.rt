@@ -26,7 +26,7 @@ fn count_replaced(scratch: &[u64], n: usize) -> usize
     marks
         .iter()
         .zip(after)
-        .filter(|(word, by)| matches!(Mark::from((**word, **by)), Mark::Replaced(_)))
+        .filter(|(word, by)| matches!(Mark::from((**word, *by)), Mark::Replaced(_)))
         .count()
 }
 
@@ -87,7 +87,7 @@ impl ResultWords<'_> {
     {
         self.section(count_replaced(scratch, n) as u64, &[]);
         let (marks, after) = scratch.split_at(n);
-        for (node, (&word, &by)) in marks.iter().zip(after).enumerate() {
+        for (node, (&word, by)) in marks.iter().zip(after).enumerate() {
             if let Mark::Replaced(by) = Mark::from((word, by)) {
                 self.pair(node, by);
             }

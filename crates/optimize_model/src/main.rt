@@ -14,13 +14,13 @@ fn read_all<R: Read>(
     numbers: &mut [u64; NUMBERS],
 ) -> io::Result<Result<usize, ReadError>> {
     let mut buffer = [0u8; 65536];
-    let mut reader = Reader::new(numbers);
+    let mut reader = Reader::new();
     for _ in 0..u64::MAX {
         let count = input.read(&mut buffer)?;
         if count == 0 {
-            return Ok(reader.finish());
+            return Ok(reader.finish(numbers));
         }
-        reader.feed(&buffer[..count]);
+        reader.feed(&buffer[..count], numbers);
     }
     Err(io::Error::other("too many reads"))
 }

@@ -1,4 +1,4 @@
--- Small laws: tests by cases, a function changed at one place, lists of facts, outcomes, and kinds told by their codes.
+-- Small laws: tests by cases, a function changed at one place, lists of facts, outcomes, marks, and kinds told by their codes.
 -- Assumes nothing.
 use Prim.Native.Nat.{ℕ, zero, suc, ◌+◌, ◌<◌, ◌≤◌}
 use mathlib.Core.Path.{◌≡◌, refl, sym, ap, ◌∙◌, subst}
@@ -12,6 +12,7 @@ use Rattle.btor.specs.Operators.{Op, Add, Sub, Mul, Divu, Div, Rem, Sll, Srl}
 use Rattle.rules.specs.Lists.{put, All}
 use Rattle.rules.specs.Refusal.{Out, refused, done, ◌>>=◌, OfDone}
 use Rattle.rules.specs.Check.{known_kind}
+use Rattle.rules.specs.Walk.{Mark, fresh, kept, replaced}
 use Rattle.rules.specs.Table.{Kind, kinds, Const, Read, Write, Word, Ult, Ext, Ite, Eq, And, Or, Not, State, Next, Input, Bad, Node, kind_of, op_code, kind_code, is}
 
 -- ---- tests
@@ -79,10 +80,21 @@ pub if-map : {A : Type 0} (P Q : A → Type 0) (m : Out A) → ((x : A) → P x 
 if-map P Q (refused r) f h = tt
 if-map P Q (done x) f h = f x h
 
+pub if-always : {A : Type 0} (P : A → Type 0) (m : Out A) → ((x : A) → P x) → If P m
+if-always P (refused r) h = tt
+if-always P (done x) h = h x
+
 -- what is not refused, by what is known of it
 pub of_done : {A : Type 0} (P : A → Type 0) (Q : Out A → Type 0) (o : Out A) → ((x : A) → o ≡ done x → P x → Q (done x)) → OfDone P o → Q o
 of_done P Q (refused r) f h = absurd h
 of_done P Q (done x) f h = f x refl h
+
+-- ---- marks
+pub fresh≢replaced : (r : ℕ) (m : Mark) → m ≡ fresh → m ≡ replaced r → ⊥
+fresh≢replaced r m e q = let z : ◌≡◌ {A = ℕ} 0 1 = cc in omega arith
+
+pub kept≢replaced : (r : ℕ) (m : Mark) → m ≡ kept → m ≡ replaced r → ⊥
+kept≢replaced r m e q = let z : ◌≡◌ {A = ℕ} 0 1 = cc in omega arith
 
 -- ---- kinds
 abbrev pub mk : Kind → ℕ → ℕ → ℕ → ℕ → ℕ → Node

@@ -1,16 +1,27 @@
--- Runs of words, one after the other in a list. Of records of p words each: what stands where, for the words of a slice that hold a table.
--- Of the replacements: how many words they are.
+-- Runs of words, one after the other in a list. Of records of p words each: what stands where, and a store, for the words of a slice that
+-- hold a table. Of the replacements: how many words they are.
 -- Assumes nothing.
-use Prim.Native.Nat.{ℕ, zero, suc, ◌+◌, ◌*◌, ◌<◌}
-use mathlib.Core.Path.{◌≡◌, refl, sym, ap, ◌∙◌}
-use mathlib.Core.List.{List, ◌++◌, append_assoc, append-nil}
+use Prim.Native.Nat.{ℕ, zero, suc, ◌+◌, ◌*◌, ◌<◌, ◌≤◌}
+use mathlib.Core.Path.{◌≡◌, refl, sym, ap, ap₂, ◌∙◌}
+use mathlib.Core.List.{List, [], ◌∷◌, ◌++◌, append_assoc, append-nil}
 use native.Mathlib.Omega.{arith}
 use native.Mathlib.Nat.{add-zero, add-suc, suc-add, zero-add}
-use lib.ListN.{length, get_or, length-append, get_or-append}
-use lib.Seq.{get_or-append-add}
-use Rattle.rules.specs.Lists.{sum}
+use lib.ListN.{length, get_or, set, length-append, get_or-append}
+use lib.Seq.{get_or-append-add, set-append_left}
+use Rattle.rules.specs.Lists.{put, sum}
 use Rattle.rules.specs.Walk.{Mark, fresh, kept, replaced}
 use Rattle.rules.specs.Result.{gather, mark_words, is_replaced}
+use Rattle.rules.proofs.Base.{put_same, put_other}
+
+-- a store past the first list
+set_append_right : (xs ys : List ℕ) (i v : ℕ) → set (xs ++ ys) (length xs + i) v ≡ xs ++ set ys i v
+set_append_right [] ys i v = ap (λ j. set ys j v) (zero-add i)
+set_append_right (x ∷ xs) ys i v = ap (λ j. set (x ∷ xs ++ ys) j v) (suc-add (length xs) i) ∙ ap (λ l. x ∷ l) (set_append_right xs ys i v)
+
+pub gather-same : (c k : ℕ) (f g : ℕ → List ℕ) → ((i : ℕ) → k ≤ i → f i ≡ g i) → gather c k f ≡ gather c k g
+unfolding gather
+gather-same zero k f g h = refl
+gather-same (suc c) k f g h = ap₂ (λ a b. a ++ b) (h k (omega arith)) (gather-same c (suc k) f g (λ i l. h i (omega arith)))
 
 -- the last of a run
 pub gather_snoc : (c k : ℕ) (f : ℕ → List ℕ) → gather (suc c) k f ≡ gather c k f ++ f (k + c)
@@ -52,3 +63,22 @@ module _ (p : ℕ) where
       let e : suc j * p + i ≡ length (f k) + (j * p + i) = omega (arith, h k) in
       ap (λ n. get_or (f k ++ gather c (suc k) f) n d) e ∙ get_or-append-add (f k) (gather c (suc k) f) (j * p + i) d
       ∙ gather-at c (suc k) f h j i d (omega arith) li ∙ ap (λ n. get_or (f n) i d) (suc-add k j ∙ sym (add-suc k j))
+
+  -- a store of one word is a store in one record
+  pub gather-set : (c k : ℕ) (f : ℕ → List ℕ) → ((i : ℕ) → length (f i) ≡ p) → (j i v : ℕ) → j < c → i < p
+      → set (gather c k f) (j * p + i) v ≡ gather c k (put f (k + j) (set (f (k + j)) i v))
+  unfolding gather
+  gather-set zero k f h j i v lj li = absurd (omega arith)
+  gather-set (suc c) k f h zero i v lj li =
+      let e : zero * p + i ≡ i = omega arith in
+      let q : k + 0 ≡ k = add-zero k in
+      ap (λ n. set (f k ++ gather c (suc k) f) n v) e ∙ set-append_left (f k) (gather c (suc k) f) i v (omega (arith, h k))
+      ∙ ap₂ (λ a b. a ++ b) (sym (put_same f k (set (f k) i v))) (gather-same c (suc k) f (put f k (set (f k) i v)) (λ m l. sym (put_other f k (set (f k) i v) m (λ r. omega arith))))
+      ∙ ap (λ n. put f n (set (f n) i v) k ++ gather c (suc k) (put f n (set (f n) i v))) (sym q)
+  gather-set (suc c) k f h (suc j) i v lj li =
+      let e : suc j * p + i ≡ length (f k) + (j * p + i) = omega (arith, h k) in
+      let q : suc k + j ≡ k + suc j = suc-add k j ∙ sym (add-suc k j) in
+      ap (λ n. set (f k ++ gather c (suc k) f) n v) e ∙ set_append_right (f k) (gather c (suc k) f) (j * p + i) v
+      ∙ ap (λ l. f k ++ l) (gather-set c (suc k) f h j i v (omega arith) li)
+      ∙ ap (λ a. a ++ gather c (suc k) (put f (suc k + j) (set (f (suc k + j)) i v))) (sym (put_other f (suc k + j) (set (f (suc k + j)) i v) k (λ r. omega arith)))
+      ∙ ap (λ n. put f n (set (f n) i v) k ++ gather c (suc k) (put f n (set (f n) i v))) q

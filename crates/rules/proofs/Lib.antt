@@ -31,6 +31,7 @@ pub mod Sections
 pub mod Names
 pub mod NameFaults
 pub mod NameWalk
+pub mod Places
 pub mod Label
 pub mod Text
 pub mod Reader

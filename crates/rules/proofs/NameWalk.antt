@@ -2,8 +2,9 @@
 -- By the outcomes of one name, at the place where its length byte stands.
 --     fault              the refusal of an outcome, if it is one
 --     missing_at, over-at, short-at, whole-at, end_at   one step of the walk, and its end
+--     names-fault        the refusal of the names bytes is that of the walk from byte 2
 -- Assumes nothing.
-use Prim.Native.Nat.{ℕ, suc, ◌+◌, ◌<◌, ◌≤◌}
+use Prim.Native.Nat.{ℕ, suc, ◌+◌, ◌*◌, ◌<◌, ◌≤◌}
 use mathlib.Core.Path.{◌≡◌, refl, sym, ap, ◌∙◌}
 use mathlib.Core.Option.{Option, none, some}
 use mathlib.Core.List.{List, [], ◌∷◌}
@@ -14,8 +15,8 @@ use lib.Seq.{drop-cons, drop-drop}
 use Rattle.rules.specs.Refusal.{Refusal, Out, refused, done, ◌>>=◌}
 use Rattle.rules.specs.Limits.{Limits}
 use Rattle.rules.specs.Sections.{none_left}
-use Rattle.rules.specs.Names.{cut_names}
-use Rattle.rules.proofs.Names.{name-over, name-short, name-whole, name_missing}
+use Rattle.rules.specs.Names.{cut_names, names_of}
+use Rattle.rules.proofs.Names.{name-over, name-short, name-whole, name_missing, names-within}
 
 abbrev pub fault : {A : Type 0} → Out A → Option Refusal
 fault (refused r) = some r
@@ -77,3 +78,9 @@ module _ (limits : Limits) (bs : List ℕ) where
             → fault ((o >>= add name) >>= λ p. none_left 7 p.0 p.1) ≡ fault (o >>= λ p. none_left 7 p.0 p.1)
         go name (refused r) = refl
         go name (done p) = rest (name ∷ p.0) p.0 p.1
+
+-- the count stands in the first two bytes
+pub names-fault : (limits : Limits) (low high : ℕ) (bs : List ℕ) → low + 256 * high ≤ limits.names
+    → fault (names_of limits (low ∷ high ∷ bs)) ≡ fault_from limits (low ∷ high ∷ bs) (low + 256 * high) 2
+unfolding names_of fault_from
+names-fault limits low high bs h = ap fault (names-within limits (low + 256 * high) bs h)

@@ -52,7 +52,7 @@ module _ (t : List Node) (ss : List ℕ) where
   abbrev from : ℕ → Option Refusal
   from k = check_sequentials t k (states_at k) (drop k ss)
 
-  states-more : (k : ℕ) → k < length ss → states_at (k + 1) ≡ state_at k ∷ states_at k
+  pub states-more : (k : ℕ) → k < length ss → states_at (k + 1) ≡ state_at k ∷ states_at k
   unfolding states_of
   states-more k h = fold_more (λ states entry. (node_at t entry).a ∷ states) [] ss k 0 h
 

@@ -380,6 +380,10 @@ module _ (limits : Limits) where
     unfolding counted
     accepted_count = ap counted e
 
+    pub accepted_place : (k : ℕ) → 0 < k → k ≤ length names
+        → (place_of limits bs k ≡ some (name_start bs k, name_size bs k)) × (part bs (name_start bs k) (name_size bs k) ≡ name_of names k)
+    accepted_place k l h = (place-within bs (length names) accepted_count k l h, sym (name-at limits bs names e k l h))
+
     pub accepted_dump : (k : ℕ) → is_dump limits bs k ≡ dump names k
     unfolding dump_among
     accepted_dump k = ap (λ o. dump_among o k) e

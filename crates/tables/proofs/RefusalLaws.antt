@@ -1,10 +1,18 @@
 -- Each refusal has a number of the rules' list, so none has the number 0, and is found again by its number, section and position.
+-- A number that no refusal has is found as a mode.
 -- Assumes nothing.
-use Prim.Native.Nat.{◌<◌}
-use mathlib.Core.Path.{◌≡◌, refl}
+use Prim.Native.Nat.{ℕ, zero, suc, ◌<◌}
+use mathlib.Core.Path.{◌≡◌, refl, ap}
+use mathlib.Core.Logic.{◌≢◌}
+use mathlib.Core.Bool.{Bool, true, false}
+use native.Mathlib.Omega.{arith}
+use lib.ListN.{get_or, get_or-eq_default}
+use lib.Dec.{eqb}
+use borrow.Author.Tests.{eqb-true, eqb-false}
+use Rattle.rules.proofs.Base.{inside-or-past}
 use Rattle.rules.proofs.Numbered.{reason-positive}
 use Rattle.tables.specs.declared.refusal.Refusal.{Refusal}
-use Rattle.tables.specs.Refusals.{refusal_of, refusal_by, RefusalsListed}
+use Rattle.tables.specs.Refusals.{refusal_of, refusals_at, refusal_by, RefusalsListed}
 
 pub listed : RefusalsListed
 unfolding RefusalsListed
@@ -46,3 +54,13 @@ found_again Refusal.ResultRoom = refl
 found_again Refusal.ScratchRoom = refl
 found_again (Refusal.AlwaysTrue s p) = refl
 found_again (Refusal.Satisfiable s p) = refl
+
+-- no refusal has another number, and none has 9
+pub refusal-none : (s p n : ℕ) → ((0 < n) × (n < 15) → n ≢ 9 → ⊥) → refusal_by n s p ≡ Refusal.Mode
+unfolding refusal_by
+refusal-none s p zero h = refl
+refusal-none s p (suc n) h = inside-or-past _ (suc n) 15 (λ l. nine (eqb (suc n) 9) refl l) (λ l. get_or-eq_default (refusals_at s p) Refusal.Mode {n = suc n} l)
+  where
+    nine : (b : Bool) → eqb (suc n) 9 ≡ b → suc n < 15 → get_or (refusals_at s p) (suc n) Refusal.Mode ≡ Refusal.Mode
+    nine true e l = ap (λ m. get_or (refusals_at s p) m Refusal.Mode) (eqb-true (suc n) 9 e)
+    nine false e l = absurd (h (omega arith, l) (eqb-false (suc n) 9 e))

@@ -20,7 +20,7 @@ use Rattle.text.proofs.Laid.{laid_two}
 use Rattle.text.specs.Printing.{Page, laid, section_size, SectionEnds, sections_in}
 
 -- ---- a number's digits: the fuel does not matter
-decimal_fuel : (f g x : ℕ) → x ≤ f → x ≤ g → decimal_of f x ≡ decimal_of g x
+pub decimal_fuel : (f g x : ℕ) → x ≤ f → x ≤ g → decimal_of f x ≡ decimal_of g x
 unfolding decimal_of
 decimal_fuel zero zero x h l = refl
 decimal_fuel zero (suc g) x h l = rw (decimal_of, lt-ltb x 10 (omega arith))
@@ -35,11 +35,11 @@ decimal_fuel (suc f) (suc g) x h l = go (ltb x 10) refl λ a b. decimal_fuel f g
         let m : 10 ≤ x = ltb-false x 10 e in
         ap (λ ds. ds ++ ((48 + x % 10) ∷ [])) (tenth (omega arith) (omega arith))
 
-decimal-short : (x : ℕ) → x < 10 → decimal x ≡ (48 + x) ∷ []
+pub decimal-short : (x : ℕ) → x < 10 → decimal x ≡ (48 + x) ∷ []
 unfolding decimal_of
 decimal-short x h = decimal_fuel x (suc x) x (omega arith) (omega arith) ∙ rw (decimal_of, lt-ltb x 10 h)
 
-decimal_long : (x : ℕ) → 10 ≤ x → decimal x ≡ decimal (x / 10) ++ ((48 + x % 10) ∷ [])
+pub decimal_long : (x : ℕ) → 10 ≤ x → decimal x ≡ decimal (x / 10) ++ ((48 + x % 10) ∷ [])
 unfolding decimal_of
 decimal_long x h =
     decimal_fuel x (suc x) x (omega arith) (omega arith) ∙ rw (decimal_of, le-ltb x 10 h)

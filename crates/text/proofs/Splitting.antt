@@ -163,7 +163,7 @@ module _ (count : ℕ) (values : List ℕ) where
 pub ruleset after_the_count = (after_over, after_refused, after_value, after_whole, counted_front)
 
 -- ---- the names in numbers
-in-none : (xs : List ℕ) → length xs ≡ 0 → bytes_in house xs ≡ refuse 1 7 0
+pub in-none : (xs : List ℕ) → length xs ≡ 0 → bytes_in house xs ≡ refuse 1 7 0
 unfolding names_in_numbers
 in-none [] h = refl
 in-none (x ∷ xs) h = let o : ⊥ = omega arith in absurd o

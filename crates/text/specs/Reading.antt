@@ -1,5 +1,5 @@
 -- The reader's state and its answer, as the rules have them (rules, Reader).
---     reader_of           a reader, with the numbers in its array, as the rules' Reader
+--     reader_of           a reader, with the numbers in the array, as the rules' Reader
 --     fed_in, ended_in    the array after a chunk, and at the end of the bytes
 --     answer_of           what is read at the end: the mode and the numbers after it, or a refusal
 -- Assumes nothing.
@@ -35,9 +35,9 @@ abbrev pub read_of : Result ℕ ReadError → List ℕ → Out (List ℕ)
 read_of (Ok n) ws = done (take n ws)
 read_of (Err why) ws = refused (error_of why)
 
--- a reader, with the array that it holds
-abbrev pub reader_of : Reader → rules.Reader
-reader_of r = record { read = read_of r.read r.numbers.now; token = token_of r.token }
+-- a reader, with the array that it is lent
+abbrev pub reader_of : Reader → List ℕ → rules.Reader
+reader_of r ws = record { read = read_of r.read ws; token = token_of r.token }
 
 -- the array after a chunk: after each byte the numbers read so far stand at its front
 unfoldable pub fed_in : rules.Reader → List ℕ → List ℕ → List ℕ

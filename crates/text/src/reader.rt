@@ -1,7 +1,7 @@
-// Decimal numbers out of bytes that arrive in chunks: a reader that holds a lent array of 4,096 numbers. Numbers may have any count of
+// Decimal numbers out of bytes that arrive in chunks, into an array of 4,096 numbers that each call is lent. Numbers may have any count of
 // leading zeros, blanks any length. The first refusal stays, whatever follows. The numbers read before it stay at the array's front,
 // and every other word of the array is as it was.
-ghost use Rattle.std.specs.Prelude.{◌≡◌, ◌<◌, ◌≤◌, Option, None, take, IfOk};
+ghost use Rattle.std.specs.Prelude.{◌≡◌, ◌<◌, ◌≤◌, ℕ, List, Option, None, take, IfOk};
 ghost use Rattle.std.proofs.Math.Option.{none, some};
 ghost use Rattle.rules.specs.Refusal.{refused};
 ghost use Rattle.rules.specs.Text.{separates as text_separates, numbers as text_numbers};
@@ -51,135 +51,120 @@ impl From<ReadError> for Refused {
     }
 }
 
-// The array, how many numbers are read at its front, or the first refusal, and the token that is being read. The array is lent, as no heap is used.
-#[derive(Drop)]
-pub struct Reader<'a> {
-    pub numbers: &'a mut [u64; NUMBERS],
+// The state from chunk to chunk: how many numbers are read at the array's front, or the first refusal, and the token that is being read. It is copied
+// freely; the array is lent to each call beside it, as no heap is used.
+#[derive(Clone, Copy)]
+pub struct Reader {
     pub read: Result<usize, ReadError>,
     pub token: Token,
 }
 
-impl<'a> Reader<'a> {
-    // Before the first byte. Which array it is (`same_array`) stands in each contract: a lent field has it from there alone.
-    pub fn new(numbers: &'a mut [u64; NUMBERS]) -> Reader<'a>
-        ensures fresh { reader_of result ≡ rules.fresh }
-        ensures numbers { result.numbers.now ≡ numbers.old }
-        ensures same_array { result.numbers.ghost_name ≡ numbers.entry.ghost_name }
+impl Reader {
+    // Before the first byte, whatever the array has.
+    pub fn new() -> Reader
+        ensures { (ws : List ℕ) → reader_of result ws ≡ rules.fresh }
     {
         Reader {
-            numbers,
             read: Ok(0),
             token: Token::Between,
         }
     }
 
-    // A chunk of bytes more. How the bytes are cut into chunks does not matter.
+    // A chunk of bytes more. How the bytes are cut into chunks does not matter. The state is copied, so that it stays in registers from byte to byte.
     #[tactic(auto, unfolding(rules::specs::Reader::feed, crate::specs::Reading::fed_in), using(crate::proofs::Reading::one_more))]
-    pub fn feed(&mut self, chunk: &[u8])
-        ensures reader { reader_of self.new ≡ rules.feed (reader_of self.old) chunk.now }
-        ensures numbers { self.new.numbers.now ≡ fed_in (reader_of self.old) chunk.now self.old.numbers.now }
-        ensures same_array { self.new.numbers.ghost_name ≡ self.old.numbers.ghost_name }
+    pub fn feed(&mut self, chunk: &[u8], numbers: &mut [u64; NUMBERS])
+        ensures reader { reader_of self.new numbers.new ≡ rules.feed (reader_of self.old numbers.old) chunk.now }
+        ensures numbers { numbers.new ≡ fed_in (reader_of self.old numbers.old) chunk.now numbers.old }
     {
+        let mut reader = *self;
         for &b in chunk {
-            self.step(b);
+            reader = reader.step(b, numbers);
         }
+        *self = reader;
     }
 
     // At the end of the bytes: how many numbers there are, the mode among them, or the first refusal.
-    pub fn finish(self) -> Result<usize, ReadError>
-        ensures read { (answer_of result self.exit.0.now ≡ rules.read_out (reader_of self.entry)) × IfOk result (λ n. (0 < n) × (n ≤ NUMBERS)) }
-        ensures numbers { self.exit.0.now ≡ ended_in (reader_of self.entry) self.entry.numbers.now }
+    pub fn finish(self, numbers: &mut [u64; NUMBERS]) -> Result<usize, ReadError>
+        ensures read { (answer_of result numbers.new ≡ rules.read_out (reader_of self numbers.old)) × IfOk result (λ n. (0 < n) × (n ≤ NUMBERS)) }
+        ensures numbers { numbers.new ≡ ended_in (reader_of self numbers.old) numbers.old }
     {
-        // Made anew of its parts: of these a proof knows what they left behind, and not of a `self` that is lent once more.
-        let Reader {
-            numbers,
-            read,
-            token,
-        } = self;
-        let mut last = Reader {
-            numbers,
-            read,
-            token,
-        };
-        last.close();
-        let count = last.read?;
+        let count = closed(self.token, self.read, numbers)?;
         if count == 0 {
             return Err(ReadError::NoNumber(0));
         }
-        let kept: &[u64] = &*last.numbers;
+        let kept: &[u64] = numbers;
         Ok(count.min(kept.len()))
     }
 
     // One byte more.
     #[tactic(auto, unfolding(rules::specs::Reader::step))]
-    fn step(&mut self, b: u8)
-        ensures reader { reader_of self.new ≡ rules.step (reader_of self.old) b }
-        ensures numbers { self.new.numbers.now ≡ on_front (rules.step (reader_of self.old) b).read self.old.numbers.now }
-        ensures same_array { self.new.numbers.ghost_name ≡ self.old.numbers.ghost_name }
+    fn step(self, b: u8, numbers: &mut [u64; NUMBERS]) -> Reader
+        ensures reader { reader_of result numbers.new ≡ rules.step (reader_of self numbers.old) b }
+        ensures numbers { numbers.new ≡ on_front (rules.step (reader_of self numbers.old) b).read numbers.old }
     {
         if separates(b) {
-            self.close();
-        } else {
-            self.token = grown(self.token, b);
+            return Reader {
+                read: closed(self.token, self.read, numbers),
+                token: Token::Between,
+            };
+        }
+        Reader {
+            read: self.read,
+            token: grown(self.token, b),
         }
     }
+}
 
-    // The token ends.
-    fn close(&mut self)
-        ensures read { read_of self.new.read self.new.numbers.now ≡ rules.closed (token_of self.old.token) (reader_of self.old).read }
-        ensures token { self.new.token ≡ Token.Between }
-        ensures numbers { self.new.numbers.now ≡ on_front (rules.closed (token_of self.old.token) (reader_of self.old).read) self.old.numbers.now }
-        ensures same_array { self.new.numbers.ghost_name ≡ self.old.numbers.ghost_name }
-    {
-        let token = self.token;
-        self.token = Token::Between;
-        let Ok(count) = self.read else {
-            return;
-        };
-        match token {
-            Token::Between => {}
-            Token::Within(x) => self.read = self.put(count, x),
-            Token::Junk => self.read = Err(self.junk_at(count)),
-        }
+// What is read once a token has ended. Most often none had begun, which is told first.
+fn closed(
+    token: Token,
+    read: Result<usize, ReadError>,
+    numbers: &mut [u64; NUMBERS],
+) -> Result<usize, ReadError>
+    ensures read { read_of result numbers.new ≡ rules.closed (token_of token) (read_of read numbers.old) }
+    ensures numbers { numbers.new ≡ on_front (rules.closed (token_of token) (read_of read numbers.old)) numbers.old }
+{
+    match token {
+        Token::Between => read,
+        Token::Within(x) => put(read?, x, numbers),
+        Token::Junk => Err(junk_at(read?, numbers)),
     }
+}
 
-    // A number at the next place of the array, which is judged first.
-    #[tactic(auto, unfolding(rules::specs::Text::judge_token), using(crate::proofs::Reading::put_at_front))]
-    fn put(&mut self, place: usize, x: u64) -> Result<usize, ReadError>
-        ensures read { read_of result self.new.numbers.now ≡ rules.put (some x) (take place self.old.numbers.now) }
-        ensures token { self.new.token ≡ self.old.token }
-        ensures numbers { self.new.numbers.now ≡ on_front (rules.put (some x) (take place self.old.numbers.now)) self.old.numbers.now }
-        ensures same_array { self.new.numbers.ghost_name ≡ self.old.numbers.ghost_name }
-    {
-        let numbers: &mut [u64] = &mut *self.numbers;
-        if place >= numbers.len() {
-            return Err(ReadError::TooMany);
-        }
-        if place == 0 && x > HIGHEST_MODE {
-            return Err(ReadError::NoNumber(0));
-        }
-        numbers[place] = x;
-        Ok(place + 1)
+// A number at the next place of the array, which is judged first.
+#[tactic(auto, unfolding(rules::specs::Text::judge_token), using(crate::proofs::Reading::put_at_front))]
+fn put(place: usize, x: u64, numbers: &mut [u64; NUMBERS]) -> Result<usize, ReadError>
+    ensures read { read_of result numbers.new ≡ rules.put (some x) (take place numbers.old) }
+    ensures numbers { numbers.new ≡ on_front (rules.put (some x) (take place numbers.old)) numbers.old }
+{
+    let numbers: &mut [u64] = numbers;
+    if place >= numbers.len() {
+        return Err(ReadError::TooMany);
     }
+    if place == 0 && x > HIGHEST_MODE {
+        return Err(ReadError::NoNumber(0));
+    }
+    numbers[place] = x;
+    Ok(place + 1)
+}
 
-    // Why a token that ends at a place, and is no number, is refused.
-    #[tactic(auto, unfolding(rules::specs::Text::judge_token))]
-    fn junk_at(&self, place: usize) -> ReadError
-        ensures { refused (error_of result) ≡ rules.put none (take place self.now.numbers.now) }
-    {
-        let numbers: &[u64] = &*self.numbers;
-        if place >= numbers.len() {
-            return ReadError::TooMany;
-        }
-        ReadError::NoNumber(place)
+// Why a token that ends at a place, and is no number, is refused.
+#[tactic(auto, unfolding(rules::specs::Text::judge_token))]
+fn junk_at(place: usize, numbers: &[u64; NUMBERS]) -> ReadError
+    ensures { refused (error_of result) ≡ rules.put none (take place numbers.now) }
+{
+    let numbers: &[u64] = numbers;
+    if place >= numbers.len() {
+        return ReadError::TooMany;
     }
+    ReadError::NoNumber(place)
 }
 
 // Blanks are the space and the tab, line ends the bytes 13 and 10.
 fn separates(b: u8) -> bool
     ensures { result ≡ text_separates b }
 {
-    matches!(b, b' ' | b'\t' | b'\r' | b'\n')
+    b == b' ' || b == b'\t' || b == b'\r' || b == b'\n'
 }
 
 // The number that a digit after those of x makes, if the byte is one and the number is below 2^64.
@@ -190,7 +175,12 @@ fn number_after(x: u64, b: u8) -> Option<u64>
     if !b.is_ascii_digit() {
         return None;
     }
-    x.checked_mul(10)?.checked_add(u64::from(b - b'0'))
+    let digit = u64::from(b - b'0');
+    // A test and no checked product: it is foreseen, and the next digit need not wait for it.
+    if x > (u64::MAX - digit) / 10 {
+        return None;
+    }
+    Some(x * 10 + digit)
 }
 
 // A byte that separates nothing.
@@ -202,7 +192,10 @@ fn grown(token: Token, b: u8) -> Token
         Token::Within(x) => x,
         Token::Junk => return Token::Junk,
     };
-    number_after(x, b).map_or(Token::Junk, Token::Within)
+    match number_after(x, b) {
+        Some(x) => Token::Within(x),
+        None => Token::Junk,
+    }
 }
 
 // The whole text at once.
@@ -210,7 +203,7 @@ pub fn read_text(bytes: &[u8], numbers: &mut [u64; NUMBERS]) -> Result<usize, Re
     ensures read { (answer_of result numbers.new ≡ text_numbers bytes.now) × IfOk result (λ n. (0 < n) × (n ≤ NUMBERS)) }
     ensures numbers { numbers.new ≡ ended_in (rules.feed rules.fresh bytes.now) (fed_in rules.fresh bytes.now numbers.old) }
 {
-    let mut reader = Reader::new(numbers);
-    reader.feed(bytes);
-    reader.finish()
+    let mut reader = Reader::new();
+    reader.feed(bytes, numbers);
+    reader.finish(numbers)
 }

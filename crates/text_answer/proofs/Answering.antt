@@ -1,6 +1,7 @@
 -- The stages of a text after its numbers: the first refusal, or the call.
 --     shown_at           what was printed where there was room is shown
 --     mode-refused, sections-refused, names-refused, call-is   the stages
+--     works, call_done, call_refused   the call that is made, and what is printed of its answer
 -- Assumes nothing.
 use Prim.Native.Nat.{ℕ, zero, suc, ◌+◌, ◌-◌, ◌<◌, ◌≤◌}
 use mathlib.Core.Path.{◌≡◌, refl, sym, ap, ap₂, ◌∙◌, subst}
@@ -102,7 +103,7 @@ module _ (mode : ℕ) (xs : List ℕ) (taken : none ≡ refusal_in (judge_mode m
       ∙ bind_refused (names_in_numbers house rest) _ r (names_in rest r f)
 
 -- else it is the call: the words before the place where the sections end, and the names bytes
-call-is : (mode : ℕ) (xs : List ℕ) → none ≡ refusal_in (judge_mode mode) → (end : ℕ) (names : List ℕ) → end ≤ length xs → rest_of house xs ≡ done (drop end xs) → bytes_in house (drop end xs) ≡ done names
+pub call-is : (mode : ℕ) (xs : List ℕ) → none ≡ refusal_in (judge_mode mode) → (end : ℕ) (names : List ℕ) → end ≤ length xs → rest_of house xs ≡ done (drop end xs) → bytes_in house (drop end xs) ≡ done names
     → after_numbers house (mode, xs) ≡ outcome house impl (call_of mode (take end xs) names)
 call-is mode xs taken end names h e f =
     let c = cut-before mode xs taken (drop end xs) e in
@@ -124,26 +125,30 @@ names-part ws n end =
     go (suc end) (suc n) [] = take-nil (suc n - suc end)
     go (suc end) (suc n) (x ∷ xs) = ap (λ m. take m (drop end xs)) (suc-sub-suc n end) ∙ go end n xs
 
--- ---- the call that is made of the numbers, and its answer: words and names are fronts of two slices, both buffers have 4,096 words
-module _ (mode : ℕ) (ws bs : List ℕ) (count end size room : ℕ) (taken : none ≡ refusal_in (judge_mode mode)) (full : room ≡ 4096) (inside : end ≤ length (after_mode ws count))
+-- ---- the call that is made of the numbers: words and names are fronts of two slices
+module _ (mode : ℕ) (ws bs : List ℕ) (count end size : ℕ) (taken : none ≡ refusal_in (judge_mode mode)) (inside : end ≤ length (after_mode ws count))
     (cut : done (drop end (after_mode ws count)) ≡ rest_of house (after_mode ws count))
     (names : done (take size bs) ≡ bytes_in house (take (count - (1 + end)) (drop (1 + end) ws))) where
-  abbrev made : Call
-  made = record { mode = mode; words = take end (after_mode ws count); names = take size bs; result_room = room; scratch_room = 4096 }
-
-  called_as : outcome house impl made ≡ after_numbers house (mode, after_mode ws count)
+  called_as : outcome house impl (call_of mode (take end (after_mode ws count)) (take size bs)) ≡ after_numbers house (mode, after_mode ws count)
   called_as =
       let bytes : bytes_in house (drop end (after_mode ws count)) ≡ done (take size bs) = ap (bytes_in house) (sym (names-part ws count end)) ∙ sym names in
-      ap (λ n. outcome house impl (record { mode = mode; words = take end (after_mode ws count); names = take size bs; result_room = n; scratch_room = 4096 })) full
-      ∙ sym (call-is mode (after_mode ws count) taken end (take size bs) inside (sym cut) bytes)
+      sym (call-is mode (after_mode ws count) taken end (take size bs) inside (sym cut) bytes)
 
-  pub works : (r : Result ℕ Reason) (result : List ℕ) → answered r ≡ (left house impl made).answer → result ≡ (left house impl made).result
-      → Works refusal_of r result (after_numbers house (mode, after_mode ws count))
+  pub works : (r : Result ℕ Reason) (entry exit : List ℕ) → Works refusal_of r entry exit (outcome house impl (call_of mode (take end (after_mode ws count)) (take size bs)))
+      → Works refusal_of r entry exit (after_numbers house (mode, after_mode ws count))
+  works r entry exit h = subst (λ o. Works refusal_of r entry exit o) called_as h
+
+-- ---- the call's answer: its words are printed as the outcome is, or the refusal is its own
+module _ (c : Call) where
+  pub call_done : (k : ℕ) (result : List ℕ) → answered (Ok k) ≡ (left house impl c).answer → result ≡ (left house impl c).result → accepted_text result ≡ printed (outcome house impl c)
   unfolding left
-  works (Ok k) result e f =
-      let d = accepted-answer house impl made (sym (ap (λ a. a.number) e)) in
-      ap accepted_text (f ∙ ap (result_of made.result_room) d.1) ∙ accepted-is d.0 _ ∙ ap printed (sym d.1) ∙ ap printed called_as
-  works (Err w) result e f = sym called_as ∙ go (outcome house impl made) e
+  call_done k result e f =
+      let d = accepted-answer house impl c (sym (ap (λ a. a.number) e)) in
+      ap accepted_text (f ∙ ap (result_of c.result_room) d.1) ∙ accepted-is d.0 _ ∙ ap printed (sym d.1)
+
+  pub call_refused : (w : Reason) → answered (Err w) ≡ (left house impl c).answer → outcome house impl c ≡ refused (refusal_of w)
+  unfolding left
+  call_refused w e = go (outcome house impl c) e
     where
       go : (o : Out Accepted) → answered (Err w) ≡ answer_of o → o ≡ refused (refusal_of w)
       go (refused r) f = ap (λ (a : Answer). refuse a.number a.section a.position) (sym f)

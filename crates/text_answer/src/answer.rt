@@ -1,11 +1,12 @@
 // What the program prints, once the numbers of a text are read: sections and names are cut, the call is made, its answer is printed.
 ghost use Rattle.std.specs.Prelude.{◌<◌, ◌≤◌, get_or};
+ghost use Rattle.rules.specs.Call.{impl, outcome};
 ghost use Rattle.rules.specs.Limits.{house};
 ghost use Rattle.rules.specs.Text.{after_numbers, printed, program};
 ghost use Rattle.tables.specs.Refusals.{refusal_of};
 ghost use Rattle.text.specs.Refused.{refused_is};
 ghost use Rattle.text.specs.Reading.{answer_of};
-ghost use Rattle.text_answer.specs.Answering.{Works, Shown, after_mode, answer_after};
+ghost use Rattle.text_answer.specs.Answering.{Works, Shown, after_mode, answer_after, call_of};
 
 use optimize::optimize::optimize_model_impl;
 use tables::judge::judge_mode;
@@ -22,11 +23,26 @@ pub const ROOM: usize = 86034;
 // The words of a result, and of scratch.
 const WORDS: usize = 4096;
 
-// The call that so many numbers make: the mode, the sections and the names. The words of its result are in the buffer.
+// A call, its result printed from the front of `out` on; a refusal leaves `out` as it was. Its own buffers are made here, where there is a call.
+fn print_call(
+    mode: u64,
+    words: &[u64],
+    names: &[u8],
+    out: &mut [u8; ROOM],
+) -> Result<usize, Refusal>
+    ensures { Works refusal_of result out.old out.new (outcome house impl (call_of mode words.now names.now)) }
+{
+    let mut res = [0u64; WORDS];
+    let mut scratch = [0u64; WORDS];
+    optimize_model_impl(mode, words, names, &mut res, &mut scratch)?;
+    Ok(print_accepted(out, &res).unwrap())
+}
+
+// The call that so many numbers make: the mode, the sections and the names.
 #[tactic(auto, using(crate::proofs::Answering::stages))]
-fn called(numbers: &[u64; NUMBERS], count: usize, res: &mut [u64; WORDS]) -> Result<usize, Refusal>
+fn called(numbers: &[u64; NUMBERS], count: usize, out: &mut [u8; ROOM]) -> Result<usize, Refusal>
     requires { (0 < count) × (count ≤ 4096) }
-    ensures { Works refusal_of result res.new (after_numbers house (get_or numbers.now 0 0, after_mode numbers.now count)) }
+    ensures { Works refusal_of result out.old out.new (after_numbers house (get_or numbers.now 0 0, after_mode numbers.now count)) }
 {
     let kept: &[u64] = numbers;
     let mode = kept[0];
@@ -36,8 +52,7 @@ fn called(numbers: &[u64; NUMBERS], count: usize, res: &mut [u64; WORDS]) -> Res
     let mut names = [0u8; BYTES];
     let size = names_bytes(numbers, 1 + end, count, &mut names)?;
     let bytes: &[u8] = &names;
-    let mut scratch = [0u64; WORDS];
-    optimize_model_impl(mode, &words[..end], &bytes[..size], res, &mut scratch)
+    print_call(mode, &words[..end], &bytes[..size], out)
 }
 
 // The outcome of the numbers that were read, or of the refusal of reading. A count past the array is all of it, and one of 0, which no
@@ -45,12 +60,12 @@ fn called(numbers: &[u64; NUMBERS], count: usize, res: &mut [u64; WORDS]) -> Res
 fn worked(
     read: Result<usize, ReadError>,
     numbers: &[u64; NUMBERS],
-    res: &mut [u64; WORDS],
+    out: &mut [u8; ROOM],
 ) -> Result<usize, Refused>
-    ensures { Works refused_is result res.new (answer_after (answer_of read numbers.now)) }
+    ensures { Works refused_is result out.old out.new (answer_after (answer_of read numbers.now)) }
 {
     let count = read?.clamp(1, NUMBERS);
-    Ok(called(numbers, count, res)?)
+    Ok(called(numbers, count, out)?)
 }
 
 // The answer to the numbers that were read, or to the refusal of reading, printed from the buffer's front on. It tells how many bytes.
@@ -61,9 +76,8 @@ pub fn answer(
 ) -> usize
     ensures { Shown out.old out.new result (printed (answer_after (answer_of read numbers.now))) }
 {
-    let mut res = [0u64; WORDS];
-    match worked(read, numbers, &mut res) {
-        Ok(_) => print_accepted(out, &res).unwrap(),
+    match worked(read, numbers, out) {
+        Ok(size) => size,
         Err(why) => print_refused(out, why).unwrap(),
     }
 }

@@ -9,4 +9,4 @@ use Rattle.text.proofs.reader.read_text.Goals as goal
 pub returns-clause-read : goal.returns-clause-read
 returns-clause-read c =
     let read = c.finish.ensures.read in
-    (ap (λ l. answer_of c.finish.result l) (search rules) ∙ (read.0 ∙ whole_text _ _ _ c.new-reader.ensures.fresh c.feed.ensures.reader), read.1)
+    (ap (λ l. answer_of c.finish.result l) (search rules) ∙ (read.0 ∙ whole_text _ _ _ (c.new-reader.ensures _) c.feed.ensures.reader), read.1)

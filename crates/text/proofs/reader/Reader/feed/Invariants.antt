@@ -9,7 +9,6 @@ use Rattle.text.proofs.reader.Reader.feed.Given as goal
 abbrev pub invariant-loop-b : goal.invariant-loop-b
 invariant-loop-b l =
     record {
-      same_array : l.self.numbers.ghost_name ≡ l.initial.self.numbers.ghost_name;
-      reader : reader_of l.self ≡ rules.feed (reader_of l.initial.self) (take l.b-index l.chunk);
-      numbers : l.self.numbers.now ≡ fed_in (reader_of l.initial.self) (take l.b-index l.chunk) l.initial.self.numbers.now;
+      reader : reader_of l.reader l.numbers ≡ rules.feed (reader_of l.initial.self l.initial.numbers) (take l.b-index l.chunk);
+      numbers : l.numbers ≡ fed_in (reader_of l.initial.self l.initial.numbers) (take l.b-index l.chunk) l.initial.numbers;
     }
