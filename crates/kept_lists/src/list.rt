@@ -14,18 +14,24 @@ const READ: usize = 65536;
 // A list is far shorter than this many reads.
 const READS: u64 = 65536;
 
-// A file, and how many more reads are taken of it.
+// A file, how many more reads are taken of it, and whether one has told its end: then none is taken any more, as a terminal would wait again.
 #[derive(Drop)]
 struct Bounded<F> {
     file: F,
     reads: u64,
+    has_ended: bool,
 }
 
 impl<F: Read> Read for Bounded<F> {
     fn read(&mut self, buf: &mut [u8]) -> io::Result<usize> {
+        if self.has_ended {
+            return Ok(0);
+        }
         let left = self.reads.checked_sub(1);
         self.reads = left.ok_or(io::Error::other("too many reads"))?;
-        self.file.read(buf)
+        let count = self.file.read(buf)?;
+        self.has_ended = count == 0;
+        Ok(count)
     }
 }
 
@@ -41,7 +47,11 @@ pub struct List<F> {
 
 impl<F: Read + Drop> List<F> {
     pub(crate) fn new(alloc: Global, file: F) -> io::Result<List<F>> {
-        let file = Bounded { file, reads: READS };
+        let file = Bounded {
+            file,
+            reads: READS,
+            has_ended: false,
+        };
         let reader = BufReader::with_capacity(alloc, READ, file)?;
         Ok(List { reader })
     }
