@@ -10,6 +10,7 @@ use gemtweed::fold::GemtweedAnswer;
 use kept_lists::case::{Case, Fault, ReadFault};
 use kept_lists::list::{Line, List, ends_with_lone_zero};
 use kept_lists::parts::cut_line;
+use kept_lists::streamed::StreamedCase;
 use std::alloc::Global;
 use std::io::Read;
 
@@ -146,7 +147,7 @@ impl<const MOST: usize> Line for LimitCase<MOST> {
     }
 }
 
-impl<const MOST: usize> Case for LimitCase<MOST> {
+impl<const MOST: usize> StreamedCase for LimitCase<MOST> {
     type Bench = ();
 
     fn bench() {}
@@ -162,6 +163,17 @@ impl<const MOST: usize> Case for LimitCase<MOST> {
 
     fn is_right(&self, alloc: Global, _bench: &mut ()) -> Result<bool, Fault> {
         self.asked.is_right(alloc, &self.model)
+    }
+}
+
+// The same of a list that is at hand whole.
+impl<const MOST: usize> Case for LimitCase<MOST> {
+    fn cut(alloc: Global, list: &[u8]) -> Result<(LimitCase<MOST>, &[u8]), Fault> {
+        <LimitCase<MOST> as StreamedCase>::cut(alloc, list)
+    }
+
+    fn is_right(&self, alloc: Global) -> Result<bool, Fault> {
+        StreamedCase::is_right(self, alloc, &mut ())
     }
 }
 
@@ -197,10 +209,22 @@ mod tests {
         "line_end_of_two_bytes 0 22 22 | | | 0 0 0\r\n",
     ];
 
+    // As the kept lists have them. The second answer is a wrong one.
+    const ANSWERED: [(&str, bool); 2] = [
+        (
+            "name_1_byte 0 105494 105494 | 0 0 0 0 0 0 | 1 0 1 97 | 0 0 0\n",
+            true,
+        ),
+        (
+            "wrong_answer_accepted_as_refused 0 22 22 | 0 0 0 0 0 0 | 0 0 | 12 8 0\n",
+            false,
+        ),
+    ];
+
     #[test]
     fn a_line_is_a_case(rt: HostRuntime) -> Result<(), Fail> {
         for line in LINES {
-            let (_, rest) = LimitCase::<MOST>::cut(rt.alloc(), line.as_bytes())?;
+            let (_, rest) = <LimitCase<MOST> as StreamedCase>::cut(rt.alloc(), line.as_bytes())?;
             assert!(rt; rest.is_empty() == !line.ends_with("next\n"), "{line}");
         }
         Ok(())
@@ -209,8 +233,18 @@ mod tests {
     #[test]
     fn malformed_lines(rt: HostRuntime) {
         for line in MALFORMED {
-            let cut = LimitCase::<MOST>::cut(rt.alloc(), line.as_bytes());
+            let cut = <LimitCase<MOST> as StreamedCase>::cut(rt.alloc(), line.as_bytes());
             assert!(rt; matches!(cut, Err(Fault::Malformed)), "{line}");
         }
+    }
+
+    #[test]
+    fn an_answer_is_held_to_the_kept_one(rt: HostRuntime) -> Result<(), Fail> {
+        for (line, is_right) in ANSWERED {
+            let (case, _) = <LimitCase<MOST> as Case>::cut(rt.alloc(), line.as_bytes())?;
+            let held = Case::is_right(&case, rt.alloc())?;
+            assert!(rt; held == is_right, "{line}");
+        }
+        Ok(())
     }
 }

@@ -1,9 +1,7 @@
-// What a kind of case has to say of itself, and the cases of a list tried and counted.
+// What a kind of case has to say of itself, and the cases of a list of bytes tried and counted.
 ghost use Rattle.std.specs.Prelude.{◌≡◌, ◌+◌, ◌^◌, ◌<◌, ◌≤◌, if◌then◌else◌, ◌++◌, length, codes, decimal, Some, IfOk};
 
-use crate::list::List;
 use std::alloc::{AllocError, Global};
-use std::io::Read;
 use std::str::Utf8Error;
 use std::{fmt, io};
 use thiserror::Error;
@@ -32,16 +30,8 @@ impl From<Utf8Error> for Fault {
     }
 }
 
-// A case with its answer.
+// A case with its answer, of a list that is at hand whole.
 pub trait Case: Drop {
-    // What answers are worked out in: it is made once for a list.
-    type Bench: Drop;
-
-    fn bench() -> Self::Bench;
-
-    // Puts the bytes of the next case into the vector; none at the list's end.
-    fn read<F: Read + Drop>(list: &mut List<F>, case: &mut Vec<u8>) -> Result<(), ReadFault>;
-
     // The case that a list begins with, and what comes after it.
     fn cut(alloc: Global, list: &[u8]) -> Result<(Self, &[u8]), Fault>
     where
@@ -49,18 +39,18 @@ pub trait Case: Drop {
         ensures { IfOk result (λ p. length p.1.now < length list.now) };
 
     // Whether the answer is the kept one.
-    fn is_right(&self, alloc: Global, bench: &mut Self::Bench) -> Result<bool, Fault>;
+    fn is_right(&self, alloc: Global) -> Result<bool, Fault>;
 }
 
 // How many cases there are, and how many of them have another answer than the kept one.
 #[derive(Clone, Copy)]
 pub(crate) struct Tally {
-    cases: usize,
-    wrong: usize,
+    pub(crate) cases: usize,
+    pub(crate) wrong: usize,
 }
 
 impl Tally {
-    fn count(&mut self, is_right: bool)
+    pub(crate) fn count(&mut self, is_right: bool)
         requires counted { self.old.wrong ≤ self.old.cases }
         requires room { self.old.cases + 1 < 2 ^ 64 }
         ensures cases { self.new.cases ≡ self.old.cases + 1 }
@@ -82,31 +72,58 @@ impl fmt::Display for Tally {
     }
 }
 
-// The case that a vector has the bytes of, no more and no fewer.
-fn whole<C: Case>(alloc: Global, bytes: &[u8]) -> Result<C, Fault> {
-    match C::cut(alloc, bytes)? {
-        (case, []) => Ok(case),
-        _ => Err(Fault::Malformed),
-    }
-}
-
-pub(crate) fn count_cases<C: Case, F: Read + Drop>(
-    alloc: Global,
-    list: &mut List<F>,
-) -> Result<Tally, ReadFault>
-    ensures { IfOk result (λ t. t.wrong ≤ t.cases) }
+pub(crate) fn count_cases<C: Case>(alloc: Global, list: &[u8]) -> Result<Tally, Fault>
+    ensures { IfOk result (λ t. (t.wrong ≤ t.cases) × (t.cases ≤ length list.now)) }
 {
     let mut tally = Tally { cases: 0, wrong: 0 };
-    let mut bench = C::bench();
-    let mut bytes = Vec::new(alloc);
-    for _ in 0..u64::MAX {
-        bytes.clear();
-        C::read(list, &mut bytes)?;
-        if bytes.is_empty() {
-            return Ok(tally);
-        }
-        let case = whole::<C>(alloc, bytes.as_slice())?;
-        tally.count(case.is_right(alloc, &mut bench)?);
+    let mut rest = list;
+    // No iterator of cases: each is cut with memory of its own, and the first fault ends the count.
+    while !rest.is_empty() {
+        let (case, after) = C::cut(alloc, rest)?;
+        tally.count(case.is_right(alloc)?);
+        rest = after;
     }
-    Err(Fault::Malformed.into())
+    Ok(tally)
+}
+
+#[cfg(test)]
+pub(crate) mod tests {
+    use super::*;
+    use crate::parts::{cut_line, number_in};
+    use std::test::Fail;
+
+    // A line is a case, a number, which is right where it is 1.
+    #[derive(Drop)]
+    pub(crate) struct Row {
+        number: u64,
+    }
+
+    impl Case for Row {
+        fn cut(_alloc: Global, list: &[u8]) -> Result<(Row, &[u8]), Fault> {
+            let (line, rest) = cut_line(list)?;
+            let number = number_in(line)?;
+            Ok((Row { number }, rest))
+        }
+
+        fn is_right(&self, _alloc: Global) -> Result<bool, Fault> {
+            Ok(self.number == 1)
+        }
+    }
+
+    #[test]
+    fn cases_are_counted(rt: HostRuntime) -> Result<(), Fail> {
+        for (list, cases, wrong) in [("", 0, 0), ("1\n", 1, 0), ("1\n0\n1\n", 3, 1)] {
+            let tally = count_cases::<Row>(rt.alloc(), list.as_bytes())?;
+            assert_eq!(rt; (tally.cases, tally.wrong), (cases, wrong), "{list}");
+        }
+        Ok(())
+    }
+
+    #[test]
+    fn a_list_that_has_no_case_is_none(rt: HostRuntime) {
+        for list in ["1\n0", "1\n\n", "1\nx\n"] {
+            let counted = count_cases::<Row>(rt.alloc(), list.as_bytes());
+            assert!(rt; matches!(counted, Err(Fault::Malformed)), "{list}");
+        }
+    }
 }

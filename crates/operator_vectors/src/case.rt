@@ -1,9 +1,10 @@
 // A line is a case: the code of a node kind, the left and the right operand and the answer, in decimal with single blanks.
 // Not has the sort's code as its right operand, Ext 0.
 use crate::operator::Operator;
-use kept_lists::case::{Case, Fault, ReadFault};
+use kept_lists::case::{Fault, ReadFault};
 use kept_lists::list::{Line, List, ends_with_lone_zero};
 use kept_lists::parts::{cut_line, number_in};
+use kept_lists::streamed::StreamedCase;
 use std::alloc::Global;
 use std::io::Read;
 
@@ -39,7 +40,7 @@ impl Line for OperatorCase {
     }
 }
 
-impl Case for OperatorCase {
+impl StreamedCase for OperatorCase {
     type Bench = ();
 
     fn bench() {}

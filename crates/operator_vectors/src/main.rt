@@ -5,9 +5,9 @@ mod case; // case.rt: a line of the list
 mod operator; // operator.rt: the operators by the codes of their node kinds
 
 use case::OperatorCase;
-use kept_lists::replay::replay;
+use kept_lists::replay::replay_streamed;
 use std::process::ExitCode;
 
 fn main(rt: HostRuntime) -> ExitCode {
-    replay::<OperatorCase, _>(&rt, "operators.list")
+    replay_streamed::<OperatorCase, _>(&rt, "operators.list")
 }

@@ -1,7 +1,8 @@
 // A case is a line with two numbers, how many bytes its text and its answer have; then the text, the answer and a line end.
-use kept_lists::case::{Case, Fault, ReadFault};
+use kept_lists::case::{Fault, ReadFault};
 use kept_lists::list::{Line, List, ends_with_lone_zero};
 use kept_lists::parts::{cut_line, number};
+use kept_lists::streamed::StreamedCase;
 use std::alloc::Global;
 use std::io::Read;
 use std::str;
@@ -63,7 +64,7 @@ impl Line for TextCase {
     }
 }
 
-impl Case for TextCase {
+impl StreamedCase for TextCase {
     // An array, as an answer is printed into a lent one of this size.
     type Bench = [u8; ROOM];
 

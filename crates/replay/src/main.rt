@@ -4,9 +4,9 @@
 mod case; // case.rt: a case of the list
 
 use case::TextCase;
-use kept_lists::replay::replay;
+use kept_lists::replay::replay_streamed;
 use std::process::ExitCode;
 
 fn main(rt: HostRuntime) -> ExitCode {
-    replay::<TextCase, _>(&rt, "cases.list")
+    replay_streamed::<TextCase, _>(&rt, "cases.list")
 }

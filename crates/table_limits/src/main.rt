@@ -2,12 +2,12 @@
 #![tactic(auto)]
 
 use case_list::case::LimitCase;
-use kept_lists::replay::replay;
+use kept_lists::replay::replay_streamed;
 use std::process::ExitCode;
 
 // The most numbers of a line: a table with every count at its limit, and 4,096 names of 64 bytes.
 const MOST: usize = 320000;
 
 fn main(rt: HostRuntime) -> ExitCode {
-    replay::<LimitCase<MOST>, _>(&rt, "limits.list")
+    replay_streamed::<LimitCase<MOST>, _>(&rt, "limits.list")
 }

@@ -1,7 +1,8 @@
 -- The stages of a text after its numbers: the first refusal, or the call.
 --     shown_at           what was printed where there was room is shown
 --     mode-refused, sections-refused, names-refused, call-is   the stages
---     works, call_done, call_refused   the call that is made, and what is printed of its answer
+--     prints, call_done, call_refused   the call that is made, and what is printed of its answer
+--     works              what is printed of the words that the call leaves
 -- Assumes nothing.
 use Prim.Native.Nat.{ℕ, zero, suc, ◌+◌, ◌-◌, ◌<◌, ◌≤◌}
 use mathlib.Core.Path.{◌≡◌, refl, sym, ap, ap₂, ◌∙◌, subst}
@@ -35,7 +36,7 @@ use Rattle.tables.proofs.JudgedLaws.{is-refused, is-done}
 use Rattle.tables.proofs.RefusalLaws.{numbered}
 use Rattle.tables.specs.declared.refusal.Refusal.{Refusal as Reason}
 use Rattle.optimize.specs.Entries.{answered}
-use Rattle.text_answer.specs.Answering.{Works, Shown, call_of, after_mode, answer_after}
+use Rattle.text_answer.specs.Answering.{Prints, Works, Shown, call_of, after_mode, answer_after}
 
 -- ---- what was printed
 pub shown_at : (entry exit bs : List ℕ) (place : Option ℕ) (r : ℕ) → place ≡ Some r → page exit place ≡ laid (page entry (Some 0)) bs → place ≡ Some (length bs) → Shown entry exit r bs
@@ -134,9 +135,9 @@ module _ (mode : ℕ) (ws bs : List ℕ) (count end size : ℕ) (taken : none �
       let bytes : bytes_in house (drop end (after_mode ws count)) ≡ done (take size bs) = ap (bytes_in house) (sym (names-part ws count end)) ∙ sym names in
       sym (call-is mode (after_mode ws count) taken end (take size bs) inside (sym cut) bytes)
 
-  pub works : (r : Result ℕ Reason) (entry exit : List ℕ) → Works refusal_of r entry exit (outcome house impl (call_of mode (take end (after_mode ws count)) (take size bs)))
-      → Works refusal_of r entry exit (after_numbers house (mode, after_mode ws count))
-  works r entry exit h = subst (λ o. Works refusal_of r entry exit o) called_as h
+  pub prints : (r : Result ℕ Reason) (entry exit : List ℕ) → Prints refusal_of r entry exit (outcome house impl (call_of mode (take end (after_mode ws count)) (take size bs)))
+      → Prints refusal_of r entry exit (after_numbers house (mode, after_mode ws count))
+  prints r entry exit h = subst (λ o. Prints refusal_of r entry exit o) called_as h
 
 -- ---- the call's answer: its words are printed as the outcome is, or the refusal is its own
 module _ (c : Call) where
@@ -154,7 +155,24 @@ module _ (c : Call) where
       go (refused r) f = ap (λ (a : Answer). refuse a.number a.section a.position) (sym f)
       go (done a) f = let o : ⊥ = omega (arith, numbered w, ap (λ (a : Answer). a.number) f) in absurd o
 
-pub ruleset stages = (mode-refused, sections-refused, names-refused, names-part, works)
+-- ---- the words that the call leaves: both buffers have 4,096
+module _ (mode : ℕ) (ws bs : List ℕ) (count end size room : ℕ) (taken : none ≡ refusal_in (judge_mode mode)) (full : room ≡ 4096) (inside : end ≤ length (after_mode ws count))
+    (cut : done (drop end (after_mode ws count)) ≡ rest_of house (after_mode ws count))
+    (names : done (take size bs) ≡ bytes_in house (take (count - (1 + end)) (drop (1 + end) ws))) where
+  abbrev made : Call
+  made = record { mode = mode; words = take end (after_mode ws count); names = take size bs; result_room = room; scratch_room = 4096 }
+
+  made_as : outcome house impl made ≡ after_numbers house (mode, after_mode ws count)
+  made_as =
+      ap (λ n. outcome house impl (record { mode = mode; words = take end (after_mode ws count); names = take size bs; result_room = n; scratch_room = 4096 })) full
+      ∙ called_as mode ws bs count end size taken inside cut names
+
+  pub works : (r : Result ℕ Reason) (result : List ℕ) → answered r ≡ (left house impl made).answer → result ≡ (left house impl made).result
+      → Works refusal_of r result (after_numbers house (mode, after_mode ws count))
+  works (Ok k) result e f = call_done made k result e f ∙ ap printed made_as
+  works (Err w) result e f = sym made_as ∙ call_refused made w e
+
+pub ruleset stages = (mode-refused, sections-refused, names-refused, names-part, prints, works)
 
 -- the answer to a whole text
 pub text_program : (bytes : List ℕ) (read : Out (ℕ × List ℕ)) → read ≡ numbers bytes → printed (answer_after read) ≡ program bytes

@@ -1,6 +1,7 @@
 -- An answer printed from the buffer's front on, and the call that a text makes.
 -- Assumes nothing.
 use Rattle.std.specs.Prelude.{ℕ, ◌-◌, ◌≡◌, List, ◌++◌, length, take, drop, Result, Ok, Err}
+use Rattle.text.specs.Printing.{accepted_text}
 use Rattle.rules.specs.Refusal.{Refusal, Out, refused, ◌>>=◌}
 use Rattle.rules.specs.Limits.{house}
 use Rattle.rules.specs.Call.{Call, Accepted}
@@ -12,9 +13,14 @@ pub record Shown (entry exit : List ℕ) (size : ℕ) (text : List ℕ) : Type 0
   pub sized : size ≡ length text
 
 -- the outcome is shown, or the refusal is its own and the buffer as it was
-abbrev pub Works : {E : Type 0} → (E → Refusal) → Result ℕ E → List ℕ → List ℕ → Out Accepted → Type 0
-Works refusal (Ok size) entry exit o = Shown entry exit size (printed o)
-Works refusal (Err why) entry exit o = (o ≡ refused (refusal why)) × (exit ≡ entry)
+abbrev pub Prints : {E : Type 0} → (E → Refusal) → Result ℕ E → List ℕ → List ℕ → Out Accepted → Type 0
+Prints refusal (Ok size) entry exit o = Shown entry exit size (printed o)
+Prints refusal (Err why) entry exit o = (o ≡ refused (refusal why)) × (exit ≡ entry)
+
+-- the result's words are printed as the rules print the outcome, or the refusal is its own
+abbrev pub Works : {E : Type 0} → (E → Refusal) → Result ℕ E → List ℕ → Out Accepted → Type 0
+Works refusal (Ok _) words o = accepted_text words ≡ printed o
+Works refusal (Err why) words o = o ≡ refused (refusal why)
 
 -- the call of the program: result and scratch have 4,096 words each
 abbrev pub call_of : ℕ → List ℕ → List ℕ → Call

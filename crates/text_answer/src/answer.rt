@@ -6,7 +6,7 @@ ghost use Rattle.rules.specs.Text.{after_numbers, printed, program};
 ghost use Rattle.tables.specs.Refusals.{refusal_of};
 ghost use Rattle.text.specs.Refused.{refused_is};
 ghost use Rattle.text.specs.Reading.{answer_of};
-ghost use Rattle.text_answer.specs.Answering.{Works, Shown, after_mode, answer_after, call_of};
+ghost use Rattle.text_answer.specs.Answering.{Prints, Shown, after_mode, answer_after, call_of};
 
 use optimize::optimize::optimize_model_impl;
 use tables::judge::judge_mode;
@@ -30,7 +30,7 @@ fn print_call(
     names: &[u8],
     out: &mut [u8; ROOM],
 ) -> Result<usize, Refusal>
-    ensures { Works refusal_of result out.old out.new (outcome house impl (call_of mode words.now names.now)) }
+    ensures { Prints refusal_of result out.old out.new (outcome house impl (call_of mode words.now names.now)) }
 {
     let mut res = [0u64; WORDS];
     let mut scratch = [0u64; WORDS];
@@ -42,7 +42,7 @@ fn print_call(
 #[tactic(auto, using(crate::proofs::Answering::stages))]
 fn called(numbers: &[u64; NUMBERS], count: usize, out: &mut [u8; ROOM]) -> Result<usize, Refusal>
     requires { (0 < count) × (count ≤ 4096) }
-    ensures { Works refusal_of result out.old out.new (after_numbers house (get_or numbers.now 0 0, after_mode numbers.now count)) }
+    ensures { Prints refusal_of result out.old out.new (after_numbers house (get_or numbers.now 0 0, after_mode numbers.now count)) }
 {
     let kept: &[u64] = numbers;
     let mode = kept[0];
@@ -62,7 +62,7 @@ fn worked(
     numbers: &[u64; NUMBERS],
     out: &mut [u8; ROOM],
 ) -> Result<usize, Refused>
-    ensures { Works refused_is result out.old out.new (answer_after (answer_of read numbers.now)) }
+    ensures { Prints refused_is result out.old out.new (answer_after (answer_of read numbers.now)) }
 {
     let count = read?.clamp(1, NUMBERS);
     Ok(called(numbers, count, out)?)
